@@ -1,0 +1,24 @@
+-- The starred edges of document 01 hold: each is computed from the definitions.
+use mathlib.Core.Path.{refl}
+use Rattle.hexfloat.specs.Normal.{digits, digitsIn, characteristicOf, fractionOf}
+use Rattle.hexfloat.specs.Compare.{comparedLong}
+use Rattle.hexfloat.specs.Convert.{toFixed, toFloat}
+use Rattle.hexfloat.specs.Divide.{shortQuotient}
+use Rattle.hexfloat.specs.Edges.{StarredEdges}
+
+pub starred-edges : StarredEdges
+unfolding toFloat toFixed shortQuotient comparedLong digits
+starred-edges = record {
+  cvfl-one = refl;
+  cvfl-least = refl;
+  cvfl-minus = refl;
+  cvfx-most = refl;
+  cvfx-overflow = refl;
+  cvfx-least = refl;
+  third = refl;
+  by-one = refl;
+  underflow = refl;
+  underflow-masked = refl;
+  overflow = refl;
+  compare-long = refl;
+}

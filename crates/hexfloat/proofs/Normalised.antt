@@ -1,0 +1,48 @@
+-- Laws of a fraction of d digits moved left by its leading zero digits.
+use mathlib.Core.Path.{_≡_, refl, sym, ap, _∙_}
+use Prim.Native.Nat.{ℕ, _+_, _-_, _*_, _/_, _^_, _≤_, _<_}
+use native.Mathlib.Nat.{le-trans, le-of-eq, lt-of-lt-of-le, lt-of-le-of-lt, mul-lt-mul-of-pos-right, mul-le-mul-right, mul-assoc, mul-right-comm}
+use native.Mathlib.Omega.{arith}
+use lib.Pow.{pow-add}
+use lib.Count.{leadingZeros}
+use Rattle.hexfloat.specs.declared.normal.Normal.{Normal}
+use Rattle.hexfloat.specs.declared.word.Parts.{Parts}
+use Rattle.hexfloat.specs.Normal.{digits}
+use Rattle.hexfloat.specs.Word.{magnitude}
+use Rattle.hexfloat.specs.Operand.{Operand, Normalised}
+use Rattle.hexfloat.proofs.Digits.{pos, mono, digits-are, digits-le, leading-digits, same-power}
+
+-- the leading zero bits of an operand's fraction in a u64, over four
+pub zeros : {d : ℕ} {p : Parts} → Operand d p → leadingZeros 64 (p .fraction) / 4 + digits (p .fraction) ≡ 16
+zeros {d} {p} o = leading-digits 16 (p .fraction) (lt-of-lt-of-le (o .fraction) (mono {j = 16} (omega arith)))
+
+pub few : {d : ℕ} {p : Parts} → Operand d p → digits (p .fraction) ≤ d
+few {d} {p} o = digits-le (p .fraction) d (o .fraction)
+
+module _ (d f : ℕ) (h : digits f ≤ d) where
+  split : 16 ^ digits f * 16 ^ (d - digits f) ≡ 16 ^ d
+  split = sym (pow-add 16 (digits f) (d - digits f)) ∙ ap (λ (x : ℕ). 16 ^ x) (omega arith)
+
+  pub moved-most : f * 16 ^ (d - digits f) < 16 ^ d
+  moved-most = lt-of-lt-of-le (mul-lt-mul-of-pos-right (digits-are f .most) (pos (d - digits f))) (le-of-eq split)
+
+  pub moved-least : 0 < f → 16 ^ d ≤ f * 16 ^ (d - digits f) * 16
+  moved-least p =
+      le-trans (le-of-eq (sym split))
+      (le-trans (mul-le-mul-right (16 ^ (d - digits f)) (digits-are f .least p)) (le-of-eq (mul-right-comm f 16 (16 ^ (d - digits f)))))
+
+module _ {d : ℕ} {p : Parts} {n : Normal} (r : Normalised d p n) where
+  pub most : n .fraction < 16 ^ d
+  most = rw (r .shifted) (moved-most d (p .fraction) (r .few))
+
+  pub least : 0 < p .fraction → 16 ^ d ≤ n .fraction * 16
+  least h = rw (r .shifted) (moved-least d (p .fraction) (r .few) h)
+
+  -- the value is kept
+  pub exact : d ≤ 14 → magnitude d p * 16 ^ d ≡ n .fraction * 16 ^ n .place
+  unfolding magnitude
+  exact h =
+      mul-assoc (p .fraction) (16 ^ (p .characteristic + (14 - d))) (16 ^ d)
+      ∙ ap (λ (x : ℕ). p .fraction * x) (same-power (p .characteristic + (14 - d)) d (d - digits (p .fraction)) (n .place) (omega (arith, r .placed, r .few)))
+      ∙ sym (mul-assoc (p .fraction) (16 ^ (d - digits (p .fraction))) (16 ^ n .place))
+      ∙ ap (λ (x : ℕ). x * 16 ^ n .place) (sym (r .shifted))

@@ -1,0 +1,50 @@
+-- `normalise` meets its contract: the leading zero bits over four, less the digits above the fraction, are the leading zero digits.
+use mathlib.Core.Path.{_≡_, ap, _∙_}
+use Prim.Native.Nat.{ℕ, _-_, _*_, _/_, _%_, _^_, _<_}
+use native.Mathlib.Nat.{lt-of-lt-of-le}
+use native.Mathlib.Omega.{arith}
+use borrow.Author.Needs.{needs}
+use lib.Count.{leadingZeros}
+use Rattle.hexfloat.specs.Normal.{digits}
+use Rattle.hexfloat.proofs.Digits.{mono, moved-left}
+use Rattle.hexfloat.proofs.Normalised.{zeros, few, moved-most}
+use Rattle.hexfloat.proofs.normal.normalise.Statement.{statement}
+use Rattle.hexfloat.proofs.normal.normalise.Tie as tie
+
+sub-shift : tie.Need-sub-shift
+sub-shift c = search needs
+
+sub-shift-2 : tie.Need-sub-shift-2
+sub-shift-2 c = omega (arith, zeros (c .pre), few (c .pre))
+
+add-t5 : tie.Need-add-t5
+add-t5 c = search needs
+
+sub-t7 : tie.Need-sub-t7
+sub-t7 c = omega (arith, zeros (c .before .pre), few (c .before .pre))
+
+mul-t6 : tie.Need-mul-t6
+mul-t6 c = omega (arith, zeros (c .before .pre), few (c .before .pre))
+
+cast-t8 : tie.Need-cast-t8
+cast-t8 c = omega (arith, zeros (c .before .pre), few (c .before .pre))
+
+shl-t9 : tie.Need-shl-t9
+shl-t9 c = omega (arith, zeros (c .before .pre), few (c .before .pre))
+
+returns : tie.Need-returns
+returns c =
+    let o = c .before .pre in
+    let f : ℕ = c .before .args .p .fraction in
+    let d : ℕ = c .before .args .d in
+    let shift : leadingZeros 64 f / 4 - (16 - d) ≡ d - digits f = omega (arith, zeros o, few o) in
+    let fits : f * 16 ^ (d - digits f) < 2 ^ 64 = lt-of-lt-of-le (moved-most d f (few o)) (mono {j = 16} (omega (arith, o .most))) in
+    record {
+      shifted = ap (λ (x : ℕ). f * 2 ^ (4 * x) % 2 ^ 64) shift ∙ moved-left f (d - digits f) fits;
+      placed = omega (arith, zeros o, few o);
+      few = few o
+    }
+
+pub normalise-spec : {M : Type 1} → statement M
+normalise-spec =
+    tie.close (tie.spec sub-shift sub-shift-2 add-t5 sub-t7 mul-t6 cast-t8 shl-t9 returns)

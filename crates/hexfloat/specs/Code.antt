@@ -1,0 +1,34 @@
+-- Condition codes: 0, 1 and 3 are the manual's 00, 01 and 11 (8.7).
+use Prim.Native.Nat.{ℕ, _*_, _/_, _^_, _-_}
+use mathlib.Core.Bool.{cond}
+use lib.Dec.{ltb, leb, eqb}
+use Rattle.hexfloat.specs.declared.word.Parts.{Parts}
+use Rattle.hexfloat.specs.declared.word.Coded.{Coded}
+use Rattle.hexfloat.specs.declared.word.Long.{Long}
+use Rattle.hexfloat.specs.Word.{shortParts, longParts, shortWord, trueZero}
+
+-- 8.17 to 8.19: 0 for a zero fraction, else 3 for a negative number and 1 for a positive one
+unfoldable pub codeOf : Parts → ℕ
+codeOf p = cond (eqb (p .fraction) 0) 0 (cond (eqb (p .sign) 0) 1 3)
+
+unfoldable pub shortCode : ℕ → ℕ
+unfolding codeOf
+shortCode w = codeOf (shortParts w)
+
+unfoldable pub longCode : Long → ℕ
+unfolding codeOf
+longCode a = codeOf (longParts a)
+
+-- 4.14: a signed number of k bits: 0 for zero, 3 for negative, 1 for positive
+unfoldable pub signedCode : ℕ → ℕ → ℕ
+signedCode k n = cond (eqb n 0) 0 (cond (ltb n (2 ^ (k - 1))) 1 3)
+
+unfoldable pub generalCode : ℕ → ℕ
+unfolding signedCode
+generalCode w = signedCode 32 w
+
+-- 8.19: the sign bit inverted; a zero fraction gives true zero
+unfoldable pub complement : ℕ → ℕ
+complement w =
+    let p = shortParts w in
+    cond (eqb (p .fraction) 0) 0 (shortWord (record { sign = 1 - p .sign; characteristic = p .characteristic; fraction = p .fraction }))

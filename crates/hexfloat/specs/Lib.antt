@@ -1,0 +1,9 @@
+pub mod Answer
+pub mod Word
+pub mod Normal
+pub mod Code
+pub mod Compare
+pub mod Convert
+pub mod Divide
+pub mod Operand
+pub mod Edges

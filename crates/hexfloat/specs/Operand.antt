@@ -1,0 +1,38 @@
+-- What the private functions of the crate hand each other: operands in range, and their normalised form (8.3).
+use Prim.Native.Nat.{ℕ, _+_, _-_, _*_, _^_, _≤_, _<_}
+use mathlib.Core.Path.{_≡_}
+use mathlib.Core.Bool.{cond}
+use lib.Dec.{eqb}
+use Rattle.hexfloat.specs.declared.normal.Normal.{Normal}
+use Rattle.hexfloat.specs.declared.word.Parts.{Parts}
+use Rattle.hexfloat.specs.Normal.{digits}
+
+-- the parts of a word of d digits
+pub record Operand (d : ℕ) (p : Parts) : Type 0 where
+  pub some : 1 < d
+  pub most : d ≤ 14
+  pub sign : p .sign ≤ 1
+  pub characteristic : p .characteristic ≤ 127
+  pub fraction : p .fraction < 16 ^ d
+
+-- A fraction of d digits moved left by its leading zero digits, and the characteristic lowered by as many; the characteristic stands 14 higher,
+-- so that it is never below 0.
+pub record Normalised (d : ℕ) (p : Parts) (n : Normal) : Type 0 where
+  pub shifted : n .fraction ≡ p .fraction * 16 ^ (d - digits (p .fraction))
+  pub placed : n .place + d ≡ p .characteristic + 14 + digits (p .fraction)
+  pub few : digits (p .fraction) ≤ d
+
+-- a number that orders magnitudes of d digits: the place of the first digit above the normalised fraction
+unfoldable pub keyOf : ℕ → Parts → ℕ
+keyOf d p = cond (eqb (p .fraction) 0) 0 ((p .characteristic + 14 + digits (p .fraction) - d) * 2 ^ 56 + p .fraction * 16 ^ (d - digits (p .fraction)))
+
+-- two normalised fractions of d digits, and how many digits of their quotient are wanted
+pub record Dividends (d n a b : ℕ) : Type 0 where
+  pub some : 0 < n
+  pub few : n ≤ 14
+  pub wide : 1 < d
+  pub most : d ≤ 14
+  pub dividend : a < 16 ^ d
+  pub divisor : b < 16 ^ d
+  pub positive : 0 < b
+  pub near : a < b * 16

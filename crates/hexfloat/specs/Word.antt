@@ -1,0 +1,27 @@
+-- Short and long words, their parts and their exact values (8.1, 8.2; document 01, 'Words and their values').
+use Prim.Native.Nat.{ℕ, _+_, _-_, _*_, _/_, _%_, _^_}
+use Rattle.hexfloat.specs.declared.word.Parts.{Parts}
+use Rattle.hexfloat.specs.declared.word.Long.{Long}
+
+-- 8.1: the first bit is the sign, the next seven are the characteristic; a short fraction has 24 bits, six hexadecimal digits
+abbrev pub shortParts : ℕ → Parts
+shortParts w = record { sign = w / 2 ^ 31; characteristic = w / 2 ^ 24 % 128; fraction = w % 2 ^ 24 }
+
+-- 8.1: a long fraction has 56 bits, 14 digits, the last 32 of them in the second word
+abbrev pub longParts : Long → Parts
+longParts a = record { sign = a .high / 2 ^ 31; characteristic = a .high / 2 ^ 24 % 128; fraction = a .high % 2 ^ 24 * 2 ^ 32 + a .low }
+
+-- the words of given parts
+abbrev pub shortWord : Parts → ℕ
+shortWord p = p .sign * 2 ^ 31 + p .characteristic * 2 ^ 24 + p .fraction
+
+abbrev pub longWord : Parts → Long
+longWord p = record { high = p .sign * 2 ^ 31 + p .characteristic * 2 ^ 24 + p .fraction / 2 ^ 32; low = p .fraction % 2 ^ 32 }
+
+-- 8.2: true zero has all bits 0
+abbrev pub trueZero : Parts
+trueZero = record { sign = 0; characteristic = 0; fraction = 0 }
+
+-- 8.2: the exact magnitude f / 16^d * 16^(c - 64) of a number of d digits, times 16^78: short f * 16^(c + 8), long f * 16^c
+unfoldable pub magnitude : ℕ → Parts → ℕ
+magnitude d p = p .fraction * 16 ^ (p .characteristic + (14 - d))

@@ -1,0 +1,135 @@
+// Divides (8.15, 8.16).
+use crate::word::Long;
+use crate::word::Parts;
+ghost use mathlib.Core.Path.{_≡_};
+ghost use Prim.Native.Nat.{_+_, _*_, _/_, _^_, min};
+ghost use Rattle.hexfloat.specs.Operand.{Operand, Dividends};
+ghost use Rattle.hexfloat.specs.Divide.{saysShort, saysLong, saysParts, quotient, shortQuotient, longQuotient, underflow};
+
+pub enum ShortQuotient {
+    Word(u32),
+    ZeroDivisor,
+    Overflow,
+    Underflow,
+}
+
+pub enum LongQuotient {
+    Pair(Long),
+    ZeroDivisor,
+    Overflow,
+    Underflow,
+}
+
+// The quotient before it is put into words.
+pub enum Quotient {
+    Of(Parts),
+    ZeroDivisor,
+    Overflow,
+    Underflow,
+}
+
+pub fn divide_short(mask: bool, a: u32, b: u32) -> ShortQuotient
+    ensures { λ r. ⌜ saysShort r ≡ shortQuotient mask a b ⌝ }
+{
+    let q = divide_parts(
+        6,
+        mask,
+        crate::word::short_parts(a),
+        crate::word::short_parts(b),
+    );
+    match q {
+        Quotient::Of(p) => ShortQuotient::Word(crate::word::short_word(p)),
+        Quotient::ZeroDivisor => ShortQuotient::ZeroDivisor,
+        Quotient::Overflow => ShortQuotient::Overflow,
+        Quotient::Underflow => ShortQuotient::Underflow,
+    }
+}
+
+pub fn divide_long(mask: bool, a: Long, b: Long) -> LongQuotient
+    ensures { λ r. ⌜ saysLong r ≡ longQuotient mask a b ⌝ }
+{
+    let q = divide_parts(
+        14,
+        mask,
+        crate::word::long_parts(a),
+        crate::word::long_parts(b),
+    );
+    match q {
+        Quotient::Of(p) => LongQuotient::Pair(crate::word::long_word(p)),
+        Quotient::ZeroDivisor => LongQuotient::ZeroDivisor,
+        Quotient::Overflow => LongQuotient::Overflow,
+        Quotient::Underflow => LongQuotient::Underflow,
+    }
+}
+
+fn divide_parts(d: u32, mask: bool, a: Parts, b: Parts) -> Quotient
+    requires { ⌜ Operand d a ⌝ }
+    requires { ⌜ Operand d b ⌝ }
+    ensures { λ r. ⌜ saysParts r ≡ quotient d mask a b ⌝ }
+{
+    if b.fraction == 0 {
+        return Quotient::ZeroDivisor;
+    }
+    if a.fraction == 0 {
+        return Quotient::Of(zero());
+    }
+    let x = crate::normal::normalise(d, a);
+    let y = crate::normal::normalise(d, b);
+    let lead = if x.fraction < y.fraction { 0 } else { 1 };
+    let up = x.place + 64 + lead;
+    if up < y.place {
+        return on_underflow(mask);
+    }
+    let c = up - y.place;
+    if 127 < c {
+        return Quotient::Overflow;
+    }
+    Quotient::Of(Parts {
+        sign: (a.sign + b.sign) % 2,
+        characteristic: c,
+        fraction: leading_digits(d, d - lead, x.fraction, y.fraction),
+    })
+}
+
+fn zero() -> Parts {
+    Parts {
+        sign: 0,
+        characteristic: 0,
+        fraction: 0,
+    }
+}
+
+fn on_underflow(mask: bool) -> Quotient
+    ensures { λ r. ⌜ saysParts r ≡ underflow mask ⌝ }
+{
+    if mask {
+        Quotient::Underflow
+    } else {
+        Quotient::Of(zero())
+    }
+}
+
+// a * 16^n / b, cut toward zero, in turns of 16 - d digits: as many as a remainder of d digits
+// leaves room for in a u64. So 6 digits take one turn and 14 take seven.
+fn leading_digits(d: u32, n: u32, a: u64, b: u64) -> u64
+    requires { ⌜ Dividends d n a b ⌝ }
+    ensures { λ r. ⌜ r ≡ a * 16 ^ n / b ⌝ }
+{
+    let mut q: u64 = 0;
+    let mut rest = a;
+    let mut left = n;
+    while 0 < left {
+        let k = least(left, 16 - d);
+        let shifted = rest << (4 * k);
+        q = (q << (4 * k)) + shifted / b;
+        rest = shifted % b;
+        left -= k;
+    }
+    q
+}
+
+fn least(a: u32, b: u32) -> u32
+    ensures { λ r. ⌜ r ≡ min a b ⌝ }
+{
+    if a < b { a } else { b }
+}
