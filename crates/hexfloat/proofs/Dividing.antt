@@ -19,7 +19,7 @@ start {d} {n} {a} {b} h = record {
   within = le-refl n;
   whole = ap (λ (x : ℕ). x * 16 ^ n) (ap (λ (x : ℕ). x + a) (zero-mul b) ∙ zero-add a);
   small = h;
-  reduced = λ l. let no : ⊥ = omega arith in absurd no
+  reduced = λ l. let no : ⊥ = omega arith in absurd no;
 }
 
 module _ {d n a b q rest left : ℕ} (r : Dividing d n a b q rest left) where
@@ -46,12 +46,12 @@ module _ {d n a b q rest left : ℕ} (r : Dividing d n a b q rest left) where
   on k p wide some few = record {
     within = omega (arith, r .within);
     whole =
-      ap (λ (x : ℕ). x * 16 ^ (left - k)) gathered
-      ∙ mul-assoc (q * b + rest) (16 ^ k) (16 ^ (left - k))
-      ∙ ap (λ (x : ℕ). (q * b + rest) * x) (sym (pow-add 16 k (left - k)) ∙ ap (λ (x : ℕ). 16 ^ x) (omega arith))
-      ∙ r .whole;
+        ap (λ (x : ℕ). x * 16 ^ (left - k)) gathered
+        ∙ mul-assoc (q * b + rest) (16 ^ k) (16 ^ (left - k))
+        ∙ ap (λ (x : ℕ). (q * b + rest) * x) (sym (pow-add 16 k (left - k)) ∙ ap (λ (x : ℕ). 16 ^ x) (omega arith))
+        ∙ r .whole;
     small = lt-of-lt-of-le (mod-lt (rest * 16 ^ k) p) wide;
-    reduced = λ l. mod-lt (rest * 16 ^ k) p
+    reduced = λ l. mod-lt (rest * 16 ^ k) p;
   }
     where
       gathered : (q * 16 ^ k + rest * 16 ^ k / b) * b + rest * 16 ^ k % b ≡ (q * b + rest) * 16 ^ k

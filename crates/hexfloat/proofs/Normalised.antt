@@ -1,15 +1,14 @@
 -- Laws of a fraction of d digits moved left by its leading zero digits.
 use mathlib.Core.Path.{_≡_, refl, sym, ap, _∙_}
 use Prim.Native.Nat.{ℕ, _+_, _-_, _*_, _/_, _^_, _≤_, _<_}
-use native.Mathlib.Nat.{le-trans, le-of-eq, lt-of-lt-of-le, lt-of-le-of-lt, mul-lt-mul-of-pos-right, mul-le-mul-right, mul-assoc, mul-right-comm}
+use native.Mathlib.Nat.{le-trans, le-of-eq, lt-of-lt-of-le, lt-of-le-of-lt, mul-lt-mul-of-pos-right, mul-le-mul-right, mul-assoc, mul-right-comm, mul-pos}
 use native.Mathlib.Omega.{arith}
 use lib.Pow.{pow-add}
 use lib.Count.{leadingZeros}
-use Rattle.hexfloat.specs.declared.normal.Normal.{Normal}
 use Rattle.hexfloat.specs.declared.word.Parts.{Parts}
 use Rattle.hexfloat.specs.Normal.{digits}
 use Rattle.hexfloat.specs.Word.{magnitude}
-use Rattle.hexfloat.specs.Operand.{Operand, Normalised}
+use Rattle.hexfloat.specs.Operand.{Operand, normalised}
 use Rattle.hexfloat.proofs.Digits.{pos, mono, digits-are, digits-le, leading-digits, same-power}
 
 -- the leading zero bits of an operand's fraction in a u64, over four
@@ -31,18 +30,28 @@ module _ (d f : ℕ) (h : digits f ≤ d) where
       le-trans (le-of-eq (sym split))
       (le-trans (mul-le-mul-right (16 ^ (d - digits f)) (digits-are f .least p)) (le-of-eq (mul-right-comm f 16 (16 ^ (d - digits f)))))
 
-module _ {d : ℕ} {p : Parts} {n : Normal} (r : Normalised d p n) where
-  pub most : n .fraction < 16 ^ d
-  most = rw (r .shifted) (moved-most d (p .fraction) (r .few))
+module _ {d : ℕ} {p : Parts} (o : Operand d p) where
+  pub most : normalised d p .fraction < 16 ^ d
+  unfolding normalised
+  most = moved-most d (p .fraction) (few o)
 
-  pub least : 0 < p .fraction → 16 ^ d ≤ n .fraction * 16
-  least h = rw (r .shifted) (moved-least d (p .fraction) (r .few) h)
+  pub least : 0 < p .fraction → 16 ^ d ≤ normalised d p .fraction * 16
+  unfolding normalised
+  least h = moved-least d (p .fraction) (few o) h
+
+  pub place-most : normalised d p .place ≤ 141
+  unfolding normalised
+  place-most = omega (arith, few o, o .characteristic, o .most)
 
   -- the value is kept
-  pub exact : d ≤ 14 → magnitude d p * 16 ^ d ≡ n .fraction * 16 ^ n .place
-  unfolding magnitude
-  exact h =
+  pub exact : magnitude d p * 16 ^ d ≡ normalised d p .fraction * 16 ^ normalised d p .place
+  unfolding normalised magnitude
+  exact =
       mul-assoc (p .fraction) (16 ^ (p .characteristic + (14 - d))) (16 ^ d)
-      ∙ ap (λ (x : ℕ). p .fraction * x) (same-power (p .characteristic + (14 - d)) d (d - digits (p .fraction)) (n .place) (omega (arith, r .placed, r .few)))
-      ∙ sym (mul-assoc (p .fraction) (16 ^ (d - digits (p .fraction))) (16 ^ n .place))
-      ∙ ap (λ (x : ℕ). x * 16 ^ n .place) (sym (r .shifted))
+      ∙ ap (λ (x : ℕ). p .fraction * x)
+      (same-power (p .characteristic + (14 - d)) d (d - digits (p .fraction)) (p .characteristic + 14 + digits (p .fraction) - d) (omega (arith, few o, o .most)))
+      ∙ sym (mul-assoc (p .fraction) (16 ^ (d - digits (p .fraction))) (16 ^ (p .characteristic + 14 + digits (p .fraction) - d)))
+
+  pub positive : 0 < p .fraction → 0 < magnitude d p
+  unfolding magnitude
+  positive h = mul-pos h (pos (p .characteristic + (14 - d)))

@@ -19,13 +19,14 @@ unfoldable pub longCode : Long → ℕ
 unfolding codeOf
 longCode a = codeOf (longParts a)
 
--- 4.14: a signed number of k bits: 0 for zero, 3 for negative, 1 for positive
+-- a signed number in two's complement, whose negative half begins at `half`: 0 for zero, 1 for positive, 3 for negative
 unfoldable pub signedCode : ℕ → ℕ → ℕ
-signedCode k n = cond (eqb n 0) 0 (cond (ltb n (2 ^ (k - 1))) 1 3)
+signedCode half n = cond (eqb n 0) 0 (cond (ltb n half) 1 3)
 
+-- 4.14
 unfoldable pub generalCode : ℕ → ℕ
 unfolding signedCode
-generalCode w = signedCode 32 w
+generalCode w = signedCode (2 ^ 31) w
 
 -- 8.19: the sign bit inverted; a zero fraction gives true zero
 unfoldable pub complement : ℕ → ℕ

@@ -32,7 +32,7 @@ toFixed w =
     let s = shortParts w .sign in
     let m = fixedMagnitude w in
     let word = signedWord s m in
-    cond (ltb m (2 ^ 31 + s)) (gives (record { word = word; code = signedCode 16 (word / 2 ^ 16) })) (stops 11)
+    cond (ltb m (2 ^ 31 + s)) (gives (record { word = word; code = signedCode (2 ^ 15) (word / 2 ^ 16) })) (stops 11)
 
 -- the magnitude of a signed word
 abbrev pub wordMagnitude : ℕ → ℕ

@@ -7,3 +7,4 @@ pub mod Convert
 pub mod Divide
 pub mod Operand
 pub mod Edges
+pub mod Theorems

@@ -2,7 +2,7 @@
 use Prim.Native.Nat.{ℕ, _+_, _-_, _*_, _^_, _≤_, _<_}
 use mathlib.Core.Path.{_≡_}
 use mathlib.Core.Bool.{cond}
-use lib.Dec.{eqb}
+use lib.Dec.{ltb, eqb}
 use Rattle.hexfloat.specs.declared.normal.Normal.{Normal}
 use Rattle.hexfloat.specs.declared.word.Parts.{Parts}
 use Rattle.hexfloat.specs.Normal.{digits}
@@ -15,16 +15,14 @@ pub record Operand (d : ℕ) (p : Parts) : Type 0 where
   pub characteristic : p .characteristic ≤ 127
   pub fraction : p .fraction < 16 ^ d
 
--- A fraction of d digits moved left by its leading zero digits, and the characteristic lowered by as many; the characteristic stands 14 higher,
+-- 8.3: a fraction of d digits moved left by its leading zero digits, and the characteristic lowered by as many. The characteristic stands 14 higher,
 -- so that it is never below 0.
-pub record Normalised (d : ℕ) (p : Parts) (n : Normal) : Type 0 where
-  pub shifted : n .fraction ≡ p .fraction * 16 ^ (d - digits (p .fraction))
-  pub placed : n .place + d ≡ p .characteristic + 14 + digits (p .fraction)
-  pub few : digits (p .fraction) ≤ d
+unfoldable pub normalised : ℕ → Parts → Normal
+normalised d p = record { place = p .characteristic + 14 + digits (p .fraction) - d; fraction = p .fraction * 16 ^ (d - digits (p .fraction)) }
 
 -- a number that orders magnitudes of d digits: the place of the first digit above the normalised fraction
 unfoldable pub keyOf : ℕ → Parts → ℕ
-keyOf d p = cond (eqb (p .fraction) 0) 0 ((p .characteristic + 14 + digits (p .fraction) - d) * 2 ^ 56 + p .fraction * 16 ^ (d - digits (p .fraction)))
+keyOf d p = cond (eqb (p .fraction) 0) 0 (normalised d p .place * 2 ^ 56 + normalised d p .fraction)
 
 -- two normalised fractions of d digits, and how many digits of their quotient are wanted
 pub record Dividends (d n a b : ℕ) : Type 0 where
@@ -36,3 +34,7 @@ pub record Dividends (d n a b : ℕ) : Type 0 where
   pub divisor : b < 16 ^ d
   pub positive : 0 < b
   pub near : a < b * 16
+
+-- of two normalised fractions: 1 where their quotient has a digit before the point, else 0
+abbrev pub leadOf : ℕ → ℕ → ℕ
+leadOf a b = cond (ltb a b) 0 1

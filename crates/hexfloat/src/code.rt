@@ -28,19 +28,16 @@ pub fn long_code(a: Long) -> u8
 pub fn general_code(w: u32) -> u8
     ensures { λ r. ⌜ r ≡ generalCode w ⌝ }
 {
-    if w == 0 {
-        return 0;
-    }
-    if w < 0x8000_0000 { 1 } else { 3 }
+    signed_code(0x8000_0000, w)
 }
 
-pub fn halfword_code(h: u32) -> u8
-    ensures { λ r. ⌜ r ≡ signedCode 16 h ⌝ }
+pub fn signed_code(half: u32, n: u32) -> u8
+    ensures { λ r. ⌜ r ≡ signedCode half n ⌝ }
 {
-    if h == 0 {
+    if n == 0 {
         return 0;
     }
-    if h < 0x8000 { 1 } else { 3 }
+    if n < half { 1 } else { 3 }
 }
 
 pub fn complement(w: u32) -> u32

@@ -30,7 +30,7 @@ pub fn to_fixed(w: u32) -> Fixed
     let word = signed_word(p.sign, m);
     Fixed::Word(Coded {
         word,
-        code: crate::code::halfword_code(word / 0x1_0000),
+        code: crate::code::signed_code(0x8000, word / 0x1_0000),
     })
 }
 

@@ -3,7 +3,8 @@ use crate::word::Long;
 use crate::word::Parts;
 ghost use mathlib.Core.Path.{_≡_};
 ghost use Prim.Native.Nat.{_+_, _*_, _/_, _^_, min};
-ghost use Rattle.hexfloat.specs.Operand.{Operand, Dividends};
+ghost use Rattle.hexfloat.specs.Operand.{Operand, Dividends, leadOf};
+ghost use Rattle.hexfloat.specs.Word.{trueZero};
 ghost use Rattle.hexfloat.specs.Divide.{saysShort, saysLong, saysParts, quotient, shortQuotient, longQuotient, underflow};
 
 pub enum ShortQuotient {
@@ -75,7 +76,7 @@ fn divide_parts(d: u32, mask: bool, a: Parts, b: Parts) -> Quotient
     }
     let x = crate::normal::normalise(d, a);
     let y = crate::normal::normalise(d, b);
-    let lead = if x.fraction < y.fraction { 0 } else { 1 };
+    let lead = leads(x.fraction, y.fraction);
     let up = x.place + 64 + lead;
     if up < y.place {
         return on_underflow(mask);
@@ -91,7 +92,16 @@ fn divide_parts(d: u32, mask: bool, a: Parts, b: Parts) -> Quotient
     })
 }
 
-fn zero() -> Parts {
+// Of two normalised fractions: 1 where their quotient has a digit before the point, else 0.
+fn leads(a: u64, b: u64) -> u32
+    ensures { λ r. ⌜ r ≡ leadOf a b ⌝ }
+{
+    if a < b { 0 } else { 1 }
+}
+
+fn zero() -> Parts
+    ensures { λ r. ⌜ r ≡ trueZero ⌝ }
+{
     Parts {
         sign: 0,
         characteristic: 0,

@@ -1,6 +1,6 @@
 // Normalisation (8.3).
-ghost use Prim.Native.Nat.{_+_, _*_, _<_, _≤_, _^_};
-ghost use Rattle.hexfloat.specs.Operand.{Operand, Normalised};
+ghost use mathlib.Core.Path.{_≡_};
+ghost use Rattle.hexfloat.specs.Operand.{Operand, normalised};
 use crate::word::Parts;
 
 // A normalised fraction, and its characteristic plus 14.
@@ -13,7 +13,7 @@ pub struct Normal {
 // 16 - d digits that a u64 has above it.
 pub fn normalise(d: u32, p: Parts) -> Normal
     requires { ⌜ Operand d p ⌝ }
-    ensures { λ r. ⌜ Normalised d p r ⌝ }
+    ensures { λ r. ⌜ r ≡ normalised d p ⌝ }
 {
     let f = p.fraction;
     let shift = u64::leading_zeros(f) / 4 - (16 - d);

@@ -1,24 +1,25 @@
+-- `complement` meets its contract: the word with its sign bit inverted is the word of its parts with the other sign.
+use native.Mathlib.Omega.{arith}
 use borrow.Author.Needs.{needs}
+use borrow.Author.Tests.{eq-eqb, ne-eqb}
+use Rattle.hexfloat.specs.Code.{complement}
 use Rattle.hexfloat.proofs.code.complement.Statement.{statement}
 use Rattle.hexfloat.proofs.code.complement.Tie as tie
-use Rattle.hexfloat.proofs.code.complement.Reads as reads
-use Rattle.hexfloat.proofs.code.complement.Lts as lts
 
--- src/code.rt:50:9
 returns : tie.Need-returns
-returns c = ?
+unfolding complement
+returns c = rw (eq-eqb _ _ (c .if1 .taken))
 
--- src/code.rt:53:9
 add-result : tie.Need-add-result
 add-result c = search needs
 
--- src/code.rt:46:1
 returns-2 : tie.Need-returns-2
-returns-2 c = ?
+unfolding complement
+returns-2 c = rw (ne-eqb _ _ (c .before .if1 .left)) (omega arith)
 
--- src/code.rt:46:1
 returns-3 : tie.Need-returns-3
-returns-3 c = ?
+unfolding complement
+returns-3 c = rw (ne-eqb _ _ (c .before .if1 .left)) (omega arith)
 
 pub complement-spec : {M : Type 1} → statement M
 complement-spec = tie.close (tie.spec returns add-result returns-2 returns-3)

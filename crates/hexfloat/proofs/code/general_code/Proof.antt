@@ -1,19 +1,15 @@
+-- `general_code` meets its contract.
+use borrow.Author.Needs.{needs}
+use Rattle.hexfloat.specs.Code.{generalCode}
 use Rattle.hexfloat.proofs.code.general_code.Statement.{statement}
 use Rattle.hexfloat.proofs.code.general_code.Tie as tie
-use Rattle.hexfloat.proofs.code.general_code.Reads as reads
-use Rattle.hexfloat.proofs.code.general_code.Lts as lts
 
--- src/code.rt:32:9
+signed-code-requires : tie.Need-signed-code-requires
+signed-code-requires c κs = search needs
+
 returns : tie.Need-returns
-returns c = ?
-
--- src/code.rt:28:1
-returns-2 : tie.Need-returns-2
-returns-2 c = ?
-
--- src/code.rt:28:1
-returns-3 : tie.Need-returns-3
-returns-3 c = ?
+unfolding generalCode
+returns c = c .signed-code .ensures
 
 pub general-code-spec : {M : Type 1} → statement M
-general-code-spec = tie.close (tie.spec returns returns-2 returns-3)
+general-code-spec = tie.close (tie.spec signed-code-requires returns)

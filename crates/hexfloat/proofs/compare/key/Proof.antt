@@ -1,3 +1,14 @@
+-- `key` meets its contract: it is the definition, with its test of zero, and the sum fits.
+use mathlib.Core.Path.{_≡_, sym, ap}
+use Prim.Native.Nat.{ℕ, _+_, _*_, _<_, _≤_, _^_}
+use native.Mathlib.Nat.{lt-of-lt-of-le}
+use native.Mathlib.Omega.{arith}
+use borrow.Author.Tests.{eq-eqb, ne-eqb}
+use Rattle.hexfloat.specs.declared.normal.Normal.{Normal}
+use Rattle.hexfloat.specs.declared.word.Parts.{Parts}
+use Rattle.hexfloat.specs.Operand.{Operand, keyOf, normalised}
+use Rattle.hexfloat.proofs.Digits.{mono}
+use Rattle.hexfloat.proofs.Normalised.{most, place-most}
 use borrow.Author.Needs.{needs}
 use Rattle.hexfloat.proofs.compare.key.Statement.{statement}
 use Rattle.hexfloat.proofs.compare.key.Tie as tie
@@ -5,9 +16,14 @@ use Rattle.hexfloat.proofs.compare.key.Reads as reads
 use Rattle.hexfloat.proofs.compare.key.Lts as lts
 use Rattle.hexfloat.proofs.normal.normalise.Reads as normalise-reads
 
+-- the key of a normalised operand is a u64
+fits : {d : ℕ} {p : Parts} {n : Normal} → Operand d p → n ≡ normalised d p → (n .place ≤ 141) × (n .fraction < 2 ^ 56)
+fits o e = rw e (place-most o, lt-of-lt-of-le (most o) (mono {j = 14} (o .most)))
+
 -- src/compare.rt:54:9
 returns : tie.Need-returns
-returns c = ?
+unfolding keyOf
+returns c = rw (eq-eqb _ _ (c .if1 .taken))
 
 -- src/compare.rt:56:9
 normalise-requires : tie.Need-normalise-requires
@@ -19,15 +35,17 @@ cast-result c = search needs
 
 -- src/compare.rt:57:5
 mul-result : tie.Need-mul-result
-mul-result c = search needs
+mul-result c = omega (arith, fits (c .before .before .before .before .pre) (c .before .normalise .ensures))
 
 -- src/compare.rt:57:5
 add-result : tie.Need-add-result
-add-result c = ?
+add-result c = omega (arith, fits (c .before .before .before .before .before .pre) (c .before .before .normalise .ensures))
 
 -- src/compare.rt:49:1
 returns-2 : tie.Need-returns-2
-returns-2 c = ?
+unfolding keyOf
+returns-2 c =
+    rw (ne-eqb _ _ (c .before .before .before .if1 .left)) (ap (λ (n : Normal). n .place * 2 ^ 56 + n .fraction) (c .before .before .normalise .ensures))
 
 pub key-spec : {M : Type 1} → statement M
 key-spec =

@@ -3,7 +3,7 @@ use Rattle.hexfloat.proofs.convert.to_fixed.Statement.{statement}
 use Rattle.hexfloat.proofs.convert.to_fixed.Tie as tie
 use Rattle.hexfloat.proofs.convert.to_fixed.Reads as reads
 use Rattle.hexfloat.proofs.convert.to_fixed.Lts as lts
-use Rattle.hexfloat.proofs.code.halfword_code.Reads as halfword-code-reads
+use Rattle.hexfloat.proofs.code.signed_code.Reads as signed-code-reads
 use Rattle.hexfloat.proofs.convert.integer.Reads as integer-reads
 use Rattle.hexfloat.proofs.convert.signed_word.Reads as signed-word-reads
 use Rattle.hexfloat.proofs.word.short_parts.Reads as short-parts-reads
@@ -41,8 +41,8 @@ signed-word-requires : tie.Need-signed-word-requires
 signed-word-requires c κs = ?
 
 -- src/convert.rt:33:15
-halfword-code-requires : tie.Need-halfword-code-requires
-halfword-code-requires c κs = search needs
+signed-code-requires : tie.Need-signed-code-requires
+signed-code-requires c κs = search needs
 
 -- src/convert.rt:16:1
 returns-4 : tie.Need-returns-4
@@ -60,5 +60,5 @@ to-fixed-spec =
     add-if3
     returns-3
     signed-word-requires
-    halfword-code-requires
+    signed-code-requires
     returns-4)

@@ -32,10 +32,10 @@ module _ (c : tie.After-least Inv-loop μ-loop) where
   rest-moved = moved-left _ _ (rest-fits (c .before .before .loop .inv) (c .least .result) (omega arith))
 
   turned : Dividing
-    (c .before .before .before .args .d) (c .before .before .before .args .n) (c .before .before .before .args .a) (c .before .before .before .args .b)
-    (c .before .before .loop .q * 16 ^ c .least .result + c .before .before .loop .rest * 16 ^ c .least .result / c .before .before .before .args .b)
-    (c .before .before .loop .rest * 16 ^ c .least .result % c .before .before .before .args .b)
-    (c .before .before .loop .left - c .least .result)
+      (c .before .before .before .args .d) (c .before .before .before .args .n) (c .before .before .before .args .a) (c .before .before .before .args .b)
+      (c .before .before .loop .q * 16 ^ c .least .result + c .before .before .loop .rest * 16 ^ c .least .result / c .before .before .before .args .b)
+      (c .before .before .loop .rest * 16 ^ c .least .result % c .before .before .before .args .b)
+      (c .before .before .loop .left - c .least .result)
   turned = on (c .before .before .loop .inv) (c .least .result) (omega arith) (le-of-lt (c .before .before .before .pre .divisor)) (omega arith) (omega arith)
 
 -- src/divide.rt:122:29

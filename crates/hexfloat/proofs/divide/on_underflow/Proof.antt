@@ -1,3 +1,6 @@
+-- `on_underflow` meets its contract, by the mask.
+use mathlib.Core.Path.{ap}
+use Rattle.hexfloat.specs.Answer.{gives}
 use borrow.Author.Needs.{needs}
 use Rattle.hexfloat.proofs.divide.on_underflow.Statement.{statement}
 use Rattle.hexfloat.proofs.divide.on_underflow.Tie as tie
@@ -5,17 +8,17 @@ use Rattle.hexfloat.proofs.divide.on_underflow.Reads as reads
 use Rattle.hexfloat.proofs.divide.on_underflow.Lts as lts
 use Rattle.hexfloat.proofs.divide.zero.Reads as zero-reads
 
--- src/divide.rt:108:22
+-- src/divide.rt:118:22
 zero-requires : tie.Need-zero-requires
 zero-requires c κs = search needs
 
--- src/divide.rt:102:1
+-- src/divide.rt:112:1
 returns : tie.Need-returns
 returns c = search needs
 
--- src/divide.rt:102:1
+-- src/divide.rt:112:1
 returns-2 : tie.Need-returns-2
-returns-2 c = ?
+returns-2 c = rw (c .before .if1 .left) (ap gives (c .zero .ensures))
 
 pub on-underflow-spec : {M : Type 1} → statement M
 on-underflow-spec = tie.close (tie.spec zero-requires returns returns-2)

@@ -1,11 +1,12 @@
 -- `normalise` meets its contract: the leading zero bits over four, less the digits above the fraction, are the leading zero digits.
 use mathlib.Core.Path.{_≡_, ap, _∙_}
-use Prim.Native.Nat.{ℕ, _-_, _*_, _/_, _%_, _^_, _<_}
+use Prim.Native.Nat.{ℕ, _+_, _-_, _*_, _/_, _%_, _^_, _<_}
 use native.Mathlib.Nat.{lt-of-lt-of-le}
 use native.Mathlib.Omega.{arith}
 use borrow.Author.Needs.{needs}
 use lib.Count.{leadingZeros}
 use Rattle.hexfloat.specs.Normal.{digits}
+use Rattle.hexfloat.specs.Operand.{normalised}
 use Rattle.hexfloat.proofs.Digits.{mono, moved-left}
 use Rattle.hexfloat.proofs.Normalised.{zeros, few, moved-most}
 use Rattle.hexfloat.proofs.normal.normalise.Statement.{statement}
@@ -33,17 +34,16 @@ shl-t9 : tie.Need-shl-t9
 shl-t9 c = omega (arith, zeros (c .before .pre), few (c .before .pre))
 
 returns : tie.Need-returns
+unfolding normalised
 returns c =
     let o = c .before .pre in
-    let f : ℕ = c .before .args .p .fraction in
+    let p = c .before .args .p in
     let d : ℕ = c .before .args .d in
-    let shift : leadingZeros 64 f / 4 - (16 - d) ≡ d - digits f = omega (arith, zeros o, few o) in
-    let fits : f * 16 ^ (d - digits f) < 2 ^ 64 = lt-of-lt-of-le (moved-most d f (few o)) (mono {j = 16} (omega (arith, o .most))) in
-    record {
-      shifted = ap (λ (x : ℕ). f * 2 ^ (4 * x) % 2 ^ 64) shift ∙ moved-left f (d - digits f) fits;
-      placed = omega (arith, zeros o, few o);
-      few = few o
-    }
+    let z : ℕ = d - digits (p .fraction) in
+    let shift : leadingZeros 64 (p .fraction) / 4 - (16 - d) ≡ z = omega (arith, zeros o, few o) in
+    let fits : p .fraction * 16 ^ z < 2 ^ 64 = lt-of-lt-of-le (moved-most d (p .fraction) (few o)) (mono {j = 16} (omega (arith, o .most))) in
+    let place : p .characteristic + 14 - z ≡ p .characteristic + 14 + digits (p .fraction) - d = omega (arith, few o) in
+    rw shift (λ i. record { place = place i; fraction = moved-left (p .fraction) z fits i })
 
 pub normalise-spec : {M : Type 1} → statement M
 normalise-spec =

@@ -1,0 +1,123 @@
+-- The key of an operand orders as its exact magnitude does.
+use mathlib.Core.Path.{_≡_, refl, sym, ap, ap₂, _∙_}
+use mathlib.Core.Logic.{_⊎_, inl, inr, ⊎-elim}
+use mathlib.Core.Bool.{cond}
+use Prim.Native.Nat.{ℕ, zero, suc, _+_, _-_, _*_, _^_, _≤_, _<_}
+use native.Mathlib.Nat.{le-refl, le-of-lt, le-add-right, not-le-of-lt, add-lt-add-of-le-of-lt, suc-mul, le-trans, le-of-eq, lt-of-lt-of-le, lt-of-le-of-lt, eq-zero-or-pos, eq-of-mul-eq-mul-right, lt-of-mul-lt-mul-right, mul-lt-mul-of-pos-right, mul-le-mul-left, mul-le-mul-right, mul-assoc, zero-mul, mul-pos, pow-suc, pow-succ'}
+use native.Mathlib.Omega.{arith}
+use borrow.Author.Tests.{lt-ltb, le-ltb, eq-eqb, ne-eqb}
+use lib.Dec.{ltb, eqb}
+use Rattle.hexfloat.specs.declared.normal.Normal.{Normal}
+use Rattle.hexfloat.specs.declared.word.Parts.{Parts}
+use Rattle.hexfloat.specs.Normal.{digits}
+use Rattle.hexfloat.specs.Word.{magnitude}
+use Rattle.hexfloat.specs.Compare.{orderCode}
+use Rattle.hexfloat.specs.Operand.{Operand, normalised, keyOf}
+use Rattle.hexfloat.proofs.Digits.{pos, mono}
+use Rattle.hexfloat.proofs.Normalised.{few, most, least, exact, positive}
+
+pub data Order (a b : ℕ) : Type 0 where
+  less : a < b → Order a b
+  same : a ≡ b → Order a b
+  more : b < a → Order a b
+
+pub order : (a b : ℕ) → Order a b
+order a b = ⊎-elim (λ e. ⊎-elim (λ f. same (omega arith)) (λ p. more (omega arith)) (eq-zero-or-pos (a - b))) (λ p. less (omega arith)) (eq-zero-or-pos (b - a))
+
+-- numbers that stand in one order have one code
+pub same-order : (x y x′ y′ : ℕ) → (x < y → x′ < y′) → (x ≡ y → x′ ≡ y′) → (y < x → y′ < x′) → orderCode x y ≡ orderCode x′ y′
+unfolding orderCode
+same-order x y x′ y′ l e m = go (order x y)
+  where
+    go : Order x y → orderCode x y ≡ orderCode x′ y′
+    go (less h) = rw (lt-ltb x y h, lt-ltb x′ y′ (l h))
+    go (same h) =
+        let h′ : x′ ≡ y′ = e h in
+        rw (le-ltb x y (omega arith), le-ltb y x (omega arith), le-ltb x′ y′ (omega arith), le-ltb y′ x′ (omega arith))
+    go (more h) =
+        let h′ : y′ < x′ = m h in
+        rw (le-ltb x y (omega arith), lt-ltb y x h, le-ltb x′ y′ (omega arith), lt-ltb y′ x′ h′)
+
+-- the first place decides, then the rest
+lexical : (m p f p′ f′ : ℕ) → f < m → f′ < m → p * m + f < p′ * m + f′ → (p < p′) ⊎ ((p ≡ p′) × (f < f′))
+lexical m p f p′ f′ h h′ l = go (order p p′)
+  where
+    lt-of-add : p′ * m + f < p′ * m + f′ → f < f′
+    lt-of-add q = omega arith
+
+    go : Order p p′ → (p < p′) ⊎ ((p ≡ p′) × (f < f′))
+    go (less a) = inl a
+    go (same e) = inr (e, lt-of-add (rw e at l))
+    go (more a) = absurd (not-le-of-lt l (le-trans (le-of-lt (add-lt-add-of-le-of-lt (le-refl (p′ * m)) h′)) (le-trans (le-of-eq (sym (suc-mul p′ m))) (le-trans (mul-le-mul-right m a) (le-add-right (p * m) f)))))
+
+module _ {d : ℕ} {p : Parts} (o : Operand d p) where
+  key-zero : p .fraction ≡ 0 → keyOf d p ≡ 0
+  unfolding keyOf
+  key-zero e = rw (eq-eqb (p .fraction) 0 e)
+
+  key-some : 0 < p .fraction → keyOf d p ≡ normalised d p .place * 2 ^ 56 + normalised d p .fraction
+  unfolding keyOf
+  key-some h = rw (ne-eqb (p .fraction) 0 (λ e. omega arith))
+
+  key-positive : 0 < p .fraction → 0 < keyOf d p
+  key-positive h = rw (key-some h) (omega (arith, least o h, pos d))
+
+  pub zero-is-zero : p .fraction ≡ 0 → magnitude d p ≡ 0
+  unfolding magnitude
+  zero-is-zero e = ap (λ (x : ℕ). x * 16 ^ (p .characteristic + (14 - d))) e ∙ zero-mul (16 ^ (p .characteristic + (14 - d)))
+
+  -- a key below 2^56 times the place, at 14 digits
+  small : normalised d p .fraction < 2 ^ 56
+  small = lt-of-lt-of-le (most o) (mono {j = 14} (o .most))
+
+  -- a key is zero where the magnitude is
+  pub zero-key : keyOf d p ≡ 0 → magnitude d p ≡ 0
+  zero-key e = ⊎-elim zero-is-zero (λ h. let no : ⊥ = omega (arith, key-positive h) in absurd no) (eq-zero-or-pos (p .fraction))
+
+  pub some-key : (keyOf d p ≡ 0 → ⊥) → 0 < magnitude d p
+  some-key ne = ⊎-elim (λ e. absurd (ne (key-zero e))) (positive o) (eq-zero-or-pos (p .fraction))
+
+module _ {d : ℕ} {x y : Parts} (ox : Operand d x) (oy : Operand d y) where
+  pub key-less : keyOf d x < keyOf d y → magnitude d x < magnitude d y
+  key-less l = ⊎-elim none some (eq-zero-or-pos (y .fraction))
+    where
+      scaled : normalised d x .fraction * 16 ^ normalised d x .place < normalised d y .fraction * 16 ^ normalised d y .place → magnitude d x < magnitude d y
+      scaled h = lt-of-mul-lt-mul-right (16 ^ d) (lt-of-le-of-lt (le-of-eq (exact ox)) (lt-of-lt-of-le h (le-of-eq (sym (exact oy)))))
+
+      none : y .fraction ≡ 0 → magnitude d x < magnitude d y
+      none e = let no : ⊥ = omega (arith, key-zero oy e) in absurd no
+
+      far : 0 < y .fraction → normalised d x .place < normalised d y .place → normalised d x .fraction * 16 ^ normalised d x .place < normalised d y .fraction * 16 ^ normalised d y .place
+      far hy p =
+          lt-of-lt-of-le (mul-lt-mul-of-pos-right (most ox) (pos (normalised d x .place)))
+          (le-trans (mul-le-mul-right (16 ^ normalised d x .place) (least oy hy))
+          (le-trans (le-of-eq (mul-assoc (normalised d y .fraction) 16 (16 ^ normalised d x .place) ∙ ap (λ (z : ℕ). normalised d y .fraction * z) (sym (pow-succ' 16 (normalised d x .place)))))
+          (mul-le-mul-left (normalised d y .fraction) (mono p))))
+
+      near : (normalised d x .place ≡ normalised d y .place) × (normalised d x .fraction < normalised d y .fraction) → normalised d x .fraction * 16 ^ normalised d x .place < normalised d y .fraction * 16 ^ normalised d y .place
+      near w = lt-of-lt-of-le (mul-lt-mul-of-pos-right (w .1) (pos (normalised d x .place))) (le-of-eq (ap (λ (z : ℕ). normalised d y .fraction * 16 ^ z) (w .0)))
+
+      both : 0 < y .fraction → 0 < x .fraction → magnitude d x < magnitude d y
+      both hy hx =
+          scaled (⊎-elim (far hy) near
+          (lexical (2 ^ 56) (normalised d x .place) (normalised d x .fraction) (normalised d y .place) (normalised d y .fraction) (small ox) (small oy)
+          (lt-of-le-of-lt (le-of-eq (sym (key-some ox hx))) (lt-of-lt-of-le l (le-of-eq (key-some oy hy))))))
+
+      some : 0 < y .fraction → magnitude d x < magnitude d y
+      some hy = ⊎-elim (λ e. lt-of-le-of-lt (le-of-eq (zero-is-zero ox e)) (positive oy hy)) (both hy) (eq-zero-or-pos (x .fraction))
+
+  pub key-same : keyOf d x ≡ keyOf d y → magnitude d x ≡ magnitude d y
+  key-same e = ⊎-elim none some (eq-zero-or-pos (x .fraction))
+    where
+      none : x .fraction ≡ 0 → magnitude d x ≡ magnitude d y
+      none f = zero-is-zero ox f ∙ sym (zero-key oy (sym e ∙ key-zero ox f))
+
+      both : 0 < x .fraction → 0 < y .fraction → magnitude d x ≡ magnitude d y
+      both hx hy =
+          let k : normalised d x .place * 2 ^ 56 + normalised d x .fraction ≡ normalised d y .place * 2 ^ 56 + normalised d y .fraction = sym (key-some ox hx) ∙ e ∙ key-some oy hy in
+          let p : normalised d x .place ≡ normalised d y .place = omega (arith, k, small ox, small oy) in
+          let f : normalised d x .fraction ≡ normalised d y .fraction = omega (arith, k, small ox, small oy) in
+          eq-of-mul-eq-mul-right (16 ^ d) (pos d) (magnitude d x) (magnitude d y) (exact ox ∙ ap₂ (λ (u v : ℕ). u * 16 ^ v) f p ∙ sym (exact oy))
+
+      some : 0 < x .fraction → magnitude d x ≡ magnitude d y
+      some hx = ⊎-elim (λ f. let no : ⊥ = omega (arith, key-positive ox hx, key-zero oy f) in absurd no) (both hx) (eq-zero-or-pos (y .fraction))

@@ -1,0 +1,91 @@
+-- `divide_long` meets its contract: the quotient's parts are in range, and each case says the same number.
+use mathlib.Core.Path.{_≡_, sym, ap, ap₂, _∙_}
+use native.Mathlib.Omega.{arith}
+use borrow.Author.Needs.{needs}
+use Rattle.hexfloat.specs.declared.divide.Quotient.{Quotient}
+use Rattle.hexfloat.specs.declared.word.Parts.{Parts}
+use Rattle.hexfloat.specs.Answer.{gives, mapped}
+use Rattle.hexfloat.specs.Word.{longParts, longWord}
+use Rattle.hexfloat.specs.Divide.{saysParts, quotient, longQuotient}
+use Rattle.hexfloat.proofs.Fits.{long-fits, quotient-fits}
+use Rattle.hexfloat.proofs.divide.divide_long.Statement.{statement}
+use Rattle.hexfloat.proofs.divide.divide_long.Tie as tie
+
+-- what the quotient of the parts says
+said : (c : tie.After-divide-parts) → saysParts (c .divide-parts .result)
+  ≡ quotient 14 (c .before .before .before .args .mask) (longParts (c .before .before .before .args .a)) (longParts (c .before .before .before .args .b))
+said c =
+    c .divide-parts .ensures
+    ∙ ap₂ (λ (x y : Parts). quotient 14 (c .before .before .before .args .mask) x y) (c .before .before .long-parts .ensures) (c .before .long-parts2 .ensures)
+
+-- the same in words, where the quotient is known
+inWords : (c : tie.After-divide-parts) (q : Quotient) → c .divide-parts .result ≡ q → mapped longWord (saysParts q)
+  ≡ longQuotient (c .before .before .before .args .mask) (c .before .before .before .args .a) (c .before .before .before .args .b)
+unfolding longQuotient
+inWords c q e = ap (λ (z : Quotient). mapped longWord (saysParts z)) (sym e) ∙ ap (mapped longWord) (said c)
+
+-- src/divide.rt:54:9
+long-parts-requires : tie.Need-long-parts-requires
+long-parts-requires c κs = search needs
+
+-- src/divide.rt:55:9
+long-parts-requires-2 : tie.Need-long-parts-requires-2
+long-parts-requires-2 c κs = search needs
+
+-- src/divide.rt:51:9
+divide-parts-requires : tie.Need-divide-parts-requires
+divide-parts-requires c κs = (rw (c .before .long-parts .ensures) (long-fits _ (omega arith) (omega arith)), rw (c .long-parts2 .ensures) (long-fits _ (omega arith) (omega arith)))
+
+-- src/divide.rt:58:22
+enum-known-q : tie.Need-enum-known-q
+enum-known-q c = search needs
+
+-- src/divide.rt:58:47
+long-word-requires : tie.Need-long-word-requires
+long-word-requires c κs =
+    quotient-fits 14 _ _ _ _ (omega arith) (omega arith) (sym (said (c .before .before .before)) ∙ ap saysParts (c .before .q .given .1))
+
+-- src/divide.rt:59:34
+enum-told : tie.Need-enum-told
+enum-told c = search needs
+
+-- src/divide.rt:60:31
+enum-told-2 : tie.Need-enum-told-2
+enum-told-2 c = search needs
+
+-- src/divide.rt:61:32
+enum-told-3 : tie.Need-enum-told-3
+enum-told-3 c = search needs
+
+-- src/divide.rt:48:1
+returns : tie.Need-returns
+returns c = ap gives (c .long-word .ensures) ∙ inWords (c .before .before .before .before) _ (c .before .before .q .given .1)
+
+-- src/divide.rt:48:1
+returns-2 : tie.Need-returns-2
+returns-2 c = inWords (c .before .before) _ (c .enum-told .given .1)
+
+-- src/divide.rt:48:1
+returns-3 : tie.Need-returns-3
+returns-3 c = inWords (c .before .before) _ (c .enum-told2 .given .1)
+
+-- src/divide.rt:48:1
+returns-4 : tie.Need-returns-4
+returns-4 c = inWords (c .before .before) _ (c .enum-told3 .given .1)
+
+pub divide-long-spec : {M : Type 1} → statement M
+divide-long-spec =
+    tie.close
+    (tie.spec
+    long-parts-requires
+    long-parts-requires-2
+    divide-parts-requires
+    enum-known-q
+    long-word-requires
+    enum-told
+    enum-told-2
+    enum-told-3
+    returns
+    returns-2
+    returns-3
+    returns-4)
