@@ -55,7 +55,7 @@ unfolding digits
 digits-are n = digitsIn-are n n (le-refl n)
 
 pub digits-zero : digits 0 ≡ 0
-unfolding digits
+unfolding digits digitsIn
 digits-zero = refl
 
 -- a power of 16 above n lies at or above the power of n's digits
@@ -104,3 +104,6 @@ moved-left x k h = rw (four-bits k) (mod-eq-of-lt h)
 -- powers with one sum of exponents
 pub same-power : (a b c d : ℕ) → a + b ≡ c + d → 16 ^ a * 16 ^ b ≡ 16 ^ c * 16 ^ d
 same-power a b c d e = sym (pow-add 16 a b) ∙ ap (λ (x : ℕ). 16 ^ x) e ∙ pow-add 16 c d
+
+pub digits-positive : {n : ℕ} → 0 < n → 0 < digits n
+digits-positive {n} h = ⊎-elim (λ e. absurd (not-le-of-lt (lt-of-lt-of-le (digits-are n .most) (le-of-eq (ap (λ (x : ℕ). 16 ^ x) e))) h)) (λ p. p) (eq-zero-or-pos (digits n))

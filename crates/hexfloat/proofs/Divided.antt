@@ -43,7 +43,7 @@ bounds o ne e =
       most = most o;
       least = least o (pos-of-ne-zero ne);
       exact = exact o;
-      positive = positive o (pos-of-ne-zero ne)
+      positive = positive o (pos-of-ne-zero ne);
     })
 
 module _ {d : ℕ} {x y : Parts} {n m : Normal} {lead : ℕ} (r : Ready d x y n m lead) where
@@ -71,7 +71,7 @@ module _ {d : ℕ} {x y : Parts} {n m : Normal} {lead : ℕ} (r : Ready d x y n 
     dividend = left .most;
     divisor = right .most;
     positive = omega (arith, right .least, pos d);
-    near = omega (arith, left .most, right .least)
+    near = omega (arith, left .most, right .least);
   }
 
   pub small : (mask : Bool) → n .place + 64 + lead < m .place → quotient d mask x y ≡ underflow mask

@@ -3,17 +3,20 @@ use mathlib.Core.Path.{_≡_, refl, sym, _∙_}
 use mathlib.Core.Bool.{Bool, true, false}
 use mathlib.Core.Logic.{⊎-elim}
 use Prim.Native.Nat.{ℕ, _+_, _*_, _/_, _%_, _^_, _≤_, _<_}
-use native.Mathlib.Nat.{zero-lt-suc, le-trans, le-of-eq, le-of-lt, lt-of-lt-of-le, lt-of-le-of-lt, lt-of-not-le, not-le-of-lt, le-of-suc-le-suc, mul-assoc, mul-lt-mul-of-pos-right, mul-comm, lt-of-mul-lt-mul-right, mod-lt, eq-zero-or-pos}
+use native.Mathlib.Nat.{ne-of-gt, zero-lt-suc, le-trans, le-of-eq, le-of-lt, lt-of-lt-of-le, lt-of-le-of-lt, lt-of-not-le, not-le-of-lt, le-of-suc-le-suc, mul-assoc, mul-lt-mul-of-pos-right, mul-comm, lt-of-mul-lt-mul-right, mod-lt, eq-zero-or-pos}
 use native.Mathlib.Omega.{arith}
+use borrow.Author.Tests.{lt-ltb, le-ltb, eq-eqb, ne-eqb}
 use lib.Pow.{pow-add}
 use Rattle.hexfloat.specs.declared.word.Parts.{Parts}
 use Rattle.hexfloat.specs.declared.word.Long.{Long}
 use Rattle.hexfloat.specs.Answer.{Answer, gives, stops}
 use Rattle.hexfloat.specs.Word.{shortParts, longParts, trueZero, magnitude}
 use Rattle.hexfloat.specs.Normal.{characteristicOf, fractionOf, IsCharacteristic, IsFraction}
+use Rattle.hexfloat.specs.Convert.{wordMagnitude, floatParts}
 use Rattle.hexfloat.specs.Divide.{quotient, underflow}
 use Rattle.hexfloat.specs.Operand.{Operand}
-use Rattle.hexfloat.proofs.Digits.{pos}
+use Rattle.hexfloat.proofs.Digits.{pos, digits-le}
+use Rattle.hexfloat.proofs.Converted.{is as float-is, characteristic as float-characteristic}
 use Rattle.hexfloat.proofs.Keys.{Order, less, same, more, order}
 use Rattle.hexfloat.proofs.Quotients.{by-zero, of-zero, too-large, too-small, number}
 use Rattle.hexfloat.proofs.Ratio.{characteristic-is, fraction-is, above}
@@ -57,6 +60,7 @@ module _ (d : ℕ) (mask : Bool) (x y p : Parts) (some : 1 < d) (most : d ≤ 14
     where
       overflowed : 0 < magnitude d y → 0 < magnitude d x → 16 ^ 63 * magnitude d y ≤ magnitude d x → Operand d p
       overflowed hy hx l = absurd (never (sym (too-large d mask x y hy hx l) ∙ e))
+
       numbered : 0 < magnitude d y → 0 < magnitude d x → magnitude d x < 16 ^ 63 * magnitude d y → magnitude d y ≤ magnitude d x * 16 ^ 65 → Operand d p
       numbered hy hx l h =
           let a : ℕ = magnitude d x in
@@ -65,11 +69,41 @@ module _ (d : ℕ) (mask : Bool) (x y p : Parts) (some : 1 < d) (most : d ≤ 14
           let high : characteristicOf a b ≤ 127 = le-of-suc-le-suc (lt-of-not-le (λ g. not-le-of-lt l (above r g))) in
           rw (gave-same (sym e ∙ number d mask x y hy hx (characteristicOf a b) (fractionOf d a b) l h refl refl))
           (record { some = some; most = most; sign = le-of-suc-le-suc (mod-lt (x .sign + y .sign) (zero-lt-suc 1)); characteristic = high; fraction = fraction-most r (fraction-is d hy) })
+
       small : 0 < magnitude d y → 0 < magnitude d x → magnitude d x < 16 ^ 63 * magnitude d y → Order (magnitude d x * 16 ^ 65) (magnitude d y) → Operand d p
       small hy hx l (less h) = underflowed mask (too-small d mask x y hy hx h)
       small hy hx l (same h) = numbered hy hx l (le-of-eq (sym h))
       small hy hx l (more h) = numbered hy hx l (le-of-lt h)
+
       large : 0 < magnitude d y → 0 < magnitude d x → Order (16 ^ 63 * magnitude d y) (magnitude d x) → Operand d p
       large hy hx (less h) = overflowed hy hx (le-of-lt h)
       large hy hx (same h) = overflowed hy hx (le-of-eq h)
       large hy hx (more h) = small hy hx h (order (magnitude d x * 16 ^ 65) (magnitude d y))
+
+magnitude-most : (w : ℕ) → w < 2 ^ 32 → wordMagnitude w < 16 ^ 8
+magnitude-most w h = go (order w (2 ^ 31))
+  where
+    go : Order w (2 ^ 31) → wordMagnitude w < 16 ^ 8
+    go (less l) = rw (lt-ltb w (2 ^ 31) l) h
+    go (same e) = rw (le-ltb w (2 ^ 31) (omega arith)) (omega arith)
+    go (more l) = rw (le-ltb w (2 ^ 31) (omega arith)) (omega arith)
+
+pub float-fits : (w : ℕ) → w < 2 ^ 32 → Operand 6 (floatParts w)
+unfolding floatParts
+float-fits w h = go (order (wordMagnitude w) 0)
+  where
+    few : wordMagnitude w < 16 ^ 8
+    few = magnitude-most w h
+
+    go : Order (wordMagnitude w) 0 → Operand 6 (floatParts w)
+    go (less l) = let no : ⊥ = omega arith in absurd no
+    go (same e) = rw (eq-eqb (wordMagnitude w) 0 e) (zero-fits (omega arith) (omega arith))
+    go (more l) =
+        rw (ne-eqb (wordMagnitude w) 0 (ne-of-gt l))
+        (record {
+          some = omega arith;
+          most = omega arith;
+          sign = omega arith;
+          characteristic = omega (arith, float-characteristic (wordMagnitude w) l, digits-le (wordMagnitude w) 8 few);
+          fraction = fraction-most (rw (float-characteristic (wordMagnitude w) l) (float-is (wordMagnitude w) l)) (fraction-is 6 (pos 4));
+        })

@@ -1,5 +1,6 @@
 -- The laws that the crate's proofs share, and its theorems.
 pub mod Compared
+pub mod Converted
 pub mod Digits
 pub mod Dividing
 pub mod Divided
@@ -10,3 +11,4 @@ pub mod Normalised
 pub mod Normals
 pub mod Quotients
 pub mod Ratio
+pub mod Theorems

@@ -29,7 +29,7 @@ module _ (d a b f p g q lead : ℕ) (ea : a * 16 ^ d ≡ f * 16 ^ p) (eb : b * 1
     pub characteristic-is : IsCharacteristic a b c
     characteristic-is = record {
       least = le-of-mul-le-mul-right (le-trans (le-of-eq divisor-parted) (le-trans (mul-le-mul-right (16 ^ (64 + p)) low) (le-of-eq (sym (raised d a f p 65 (65 + p) ea refl ∙ parted f 1 (64 + p) (65 + p) (omega arith)))))) (pos d);
-      most = lt-of-mul-lt-mul-right (16 ^ d) (lt-of-le-of-lt (le-of-eq (raised d a f p 64 (64 + p) ea refl)) (lt-of-lt-of-le (mul-lt-mul-of-pos-right high (pos (64 + p))) (le-of-eq (sym divisor-parted))))
+      most = lt-of-mul-lt-mul-right (16 ^ d) (lt-of-le-of-lt (le-of-eq (raised d a f p 64 (64 + p) ea refl)) (lt-of-lt-of-le (mul-lt-mul-of-pos-right high (pos (64 + p))) (le-of-eq (sym divisor-parted))));
     }
 
     pub fraction-is : lead ≤ d → a * 16 ^ (64 + d) / (16 ^ c * b) ≡ f * 16 ^ (d - lead) / g

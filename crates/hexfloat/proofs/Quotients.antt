@@ -64,4 +64,3 @@ lead-most a b = go (order a b)
     go (less h) = rw (lt-ltb a b h) (omega arith)
     go (same h) = rw (le-ltb a b (omega arith)) (omega arith)
     go (more h) = rw (le-ltb a b (omega arith)) (omega arith)
-

@@ -45,7 +45,7 @@ characteristic-is {a} {b} h l = record {
         (le-trans (mul-le-mul-right 16 (div-mul-le-self (a * 16 ^ 64) b)) (le-of-eq (mul-assoc a (16 ^ 64) 16))))
 
 -- a quotient of whole numbers and its bounds
-cut-is : (p x : ℕ) → 0 < x → (p / x * x ≤ p) × (p < suc (p / x) * x)
+pub cut-is : (p x : ℕ) → 0 < x → (p / x * x ≤ p) × (p < suc (p / x) * x)
 cut-is p x h = (div-mul-le-self p x, lt-of-lt-of-le (lt-div-mul-add h) (le-of-eq (sym (suc-mul (p / x) x))))
 
 pub cut-unique : (p x f : ℕ) → f * x ≤ p → p < suc f * x → p / x ≡ f

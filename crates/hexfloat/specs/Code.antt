@@ -12,11 +12,9 @@ unfoldable pub codeOf : Parts → ℕ
 codeOf p = cond (eqb (p .fraction) 0) 0 (cond (eqb (p .sign) 0) 1 3)
 
 unfoldable pub shortCode : ℕ → ℕ
-unfolding codeOf
 shortCode w = codeOf (shortParts w)
 
 unfoldable pub longCode : Long → ℕ
-unfolding codeOf
 longCode a = codeOf (longParts a)
 
 -- a signed number in two's complement, whose negative half begins at `half`: 0 for zero, 1 for positive, 3 for negative
@@ -25,7 +23,6 @@ signedCode half n = cond (eqb n 0) 0 (cond (ltb n half) 1 3)
 
 -- 4.14
 unfoldable pub generalCode : ℕ → ℕ
-unfolding signedCode
 generalCode w = signedCode (2 ^ 31) w
 
 -- 8.19: the sign bit inverted; a zero fraction gives true zero

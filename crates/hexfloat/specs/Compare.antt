@@ -12,24 +12,19 @@ orderCode x y = cond (ltb x y) 3 (cond (ltb y x) 1 0)
 
 -- the part of a number's value that stands above zero, and the part below it
 unfoldable pub positive : ℕ → Parts → ℕ
-unfolding magnitude
 positive d p = cond (eqb (p .sign) 0) (magnitude d p) 0
 
 unfoldable pub negative : ℕ → Parts → ℕ
-unfolding magnitude
 negative d p = cond (eqb (p .sign) 0) 0 (magnitude d p)
 
 -- x against y by exact signed value, with the negative parts brought over so that all numbers are whole
 unfoldable pub compared : ℕ → Parts → Parts → ℕ
-unfolding orderCode positive negative
 compared d x y = orderCode (positive d x + negative d y) (positive d y + negative d x)
 
 -- 8.12
 unfoldable pub comparedShort : ℕ → ℕ → ℕ
-unfolding compared
 comparedShort a b = compared 6 (shortParts a) (shortParts b)
 
 -- 8.11
 unfoldable pub comparedLong : Long → Long → ℕ
-unfolding compared
 comparedLong a b = compared 14 (longParts a) (longParts b)

@@ -16,10 +16,9 @@ abbrev pub saysFixed : Fixed → Answer Coded
 saysFixed (Word c) = gives c
 saysFixed Overflow = stops 11
 
--- the exact magnitude times 65,536, cut toward zero: a magnitude stands times 16^78, and 16^78 / 65,536 = 16^74
-unfoldable pub fixedMagnitude : ℕ → ℕ
-unfolding magnitude
-fixedMagnitude w = magnitude 6 (shortParts w) / 16 ^ 74
+-- the exact magnitude of a short number times 65,536, cut toward zero: a magnitude stands times 16^78, and 16^78 / 65,536 is 16^74
+unfoldable pub fixedMagnitude : Parts → ℕ
+fixedMagnitude p = magnitude 6 p / 16 ^ 74
 
 -- the two's complement word of a sign and a magnitude
 abbrev pub signedWord : ℕ → ℕ → ℕ
@@ -27,12 +26,11 @@ signedWord s m = cond (eqb s 0) m ((2 ^ 32 - m) % 2 ^ 32)
 
 -- 8.13: the word, with the condition code of its signed upper halfword, where it is in the range of a signed word
 unfoldable pub toFixed : ℕ → Answer Coded
-unfolding fixedMagnitude signedCode
 toFixed w =
-    let s = shortParts w .sign in
-    let m = fixedMagnitude w in
-    let word = signedWord s m in
-    cond (ltb m (2 ^ 31 + s)) (gives (record { word = word; code = signedCode (2 ^ 15) (word / 2 ^ 16) })) (stops 11)
+    let p = shortParts w in
+    let m = fixedMagnitude p in
+    let word = signedWord (p .sign) m in
+    cond (ltb m (2 ^ 31 + p .sign)) (gives (record { word = word; code = signedCode (2 ^ 15) (word / 2 ^ 16) })) (stops 11)
 
 -- the magnitude of a signed word
 abbrev pub wordMagnitude : ℕ → ℕ
@@ -40,11 +38,9 @@ wordMagnitude w = cond (ltb w (2 ^ 31)) w (2 ^ 32 - w)
 
 -- 8.14: the word over 65,536, normalised and cut to six digits; 0 gives true zero
 unfoldable pub floatParts : ℕ → Parts
-unfolding characteristicOf fractionOf
 floatParts w =
     let m = wordMagnitude w in
     cond (eqb m 0) trueZero (record { sign = w / 2 ^ 31; characteristic = characteristicOf m 65536; fraction = fractionOf 6 m 65536 })
 
 unfoldable pub toFloat : ℕ → Coded
-unfolding floatParts codeOf
 toFloat w = record { word = shortWord (floatParts w); code = codeOf (floatParts w) }

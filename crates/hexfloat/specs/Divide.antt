@@ -41,7 +41,6 @@ underflow false = gives trueZero
 -- The quotient of two numbers of d digits. A zero divisor stops first, then a zero dividend gives true zero. A characteristic e + 64 above 127,
 -- that is a quotient of 16^63 or more, overflows; one below 0, that is a quotient below 16^(-65), underflows.
 unfoldable pub quotient : ℕ → Bool → Parts → Parts → Answer Parts
-unfolding magnitude characteristicOf fractionOf
 quotient d mask x y =
     let a = magnitude d x in
     let b = magnitude d y in
@@ -53,10 +52,8 @@ quotient d mask x y =
 
 -- 8.16
 unfoldable pub shortQuotient : Bool → ℕ → ℕ → Answer ℕ
-unfolding quotient
 shortQuotient mask a b = mapped shortWord (quotient 6 mask (shortParts a) (shortParts b))
 
 -- 8.15
 unfoldable pub longQuotient : Bool → Long → Long → Answer Long
-unfolding quotient
 longQuotient mask a b = mapped longWord (quotient 14 mask (longParts a) (longParts b))

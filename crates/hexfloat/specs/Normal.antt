@@ -8,7 +8,6 @@ digitsIn (suc k) zero = zero
 digitsIn (suc k) (suc n) = suc (digitsIn k (suc n / 16))
 
 unfoldable pub digits : ℕ → ℕ
-unfolding digitsIn
 digits n = digitsIn n n
 
 -- With q = a / b the exact ratio and e the whole number with 16^(e-1) ≤ q < 16^e:

@@ -5,7 +5,7 @@ use mathlib.Core.Logic.{_⊎_}
 use Prim.Native.Nat.{ℕ, suc, _+_, _*_, _%_, _^_, _≤_, _<_}
 use Rattle.hexfloat.specs.declared.word.Parts.{Parts}
 use Rattle.hexfloat.specs.Answer.{gives, stops}
-use Rattle.hexfloat.specs.Word.{shortParts, trueZero, magnitude}
+use Rattle.hexfloat.specs.Word.{trueZero, magnitude}
 use Rattle.hexfloat.specs.Normal.{IsCharacteristic, IsFraction, IsBelowZero}
 use Rattle.hexfloat.specs.Convert.{fixedMagnitude, wordMagnitude, floatParts}
 use Rattle.hexfloat.specs.Divide.{quotient, underflow}
@@ -30,11 +30,11 @@ pub record ExactQuotient (d : ℕ) (mask : Bool) (x y : Parts) : Type 0 where
       → IsFraction d (magnitude d x) (magnitude d y) c f
       → quotient d mask x y ≡ gives (record { sign = (x .sign + y .sign) % 2; characteristic = c; fraction = f })
 
--- CVFX: m is the exact value times 65,536 cut toward zero, and no other number is.
-pub record ExactFixed (w : ℕ) : Type 0 where
-  pub least : fixedMagnitude w * 16 ^ 74 ≤ magnitude 6 (shortParts w)
-  pub most : magnitude 6 (shortParts w) < suc (fixedMagnitude w) * 16 ^ 74
-  pub only : (m : ℕ) → m * 16 ^ 74 ≤ magnitude 6 (shortParts w) → magnitude 6 (shortParts w) < suc m * 16 ^ 74 → fixedMagnitude w ≡ m
+-- CVFX: the magnitude is the exact value times 65,536 cut toward zero, and no other number is.
+pub record ExactFixed (p : Parts) : Type 0 where
+  pub least : fixedMagnitude p * 16 ^ 74 ≤ magnitude 6 p
+  pub most : magnitude 6 p < suc (fixedMagnitude p) * 16 ^ 74
+  pub only : (m : ℕ) → m * 16 ^ 74 ≤ magnitude 6 p → magnitude 6 p < suc m * 16 ^ 74 → fixedMagnitude p ≡ m
 
 -- CVFL: the characteristic and the fraction are those of the word over 65,536, cut to six digits, and no others are.
 pub record ExactFloat (w : ℕ) : Type 0 where

@@ -2,10 +2,9 @@
 use crate::word::Coded;
 use crate::word::Parts;
 ghost use mathlib.Core.Path.{_≡_};
-ghost use Prim.Native.Nat.{_+_, _*_, _/_, _<_, _≤_, _^_};
-ghost use Rattle.hexfloat.specs.Word.{shortParts};
-ghost use Rattle.hexfloat.specs.Code.{codeOf};
-ghost use Rattle.hexfloat.specs.Convert.{saysFixed, toFixed, toFloat, floatParts, signedWord, wordMagnitude};
+ghost use Prim.Native.Nat.{_≤_, _^_};
+ghost use Rattle.hexfloat.specs.Operand.{Operand};
+ghost use Rattle.hexfloat.specs.Convert.{saysFixed, toFixed, toFloat, floatParts, fixedMagnitude, signedWord, wordMagnitude};
 
 pub enum Fixed {
     Word(Coded),
@@ -23,7 +22,7 @@ pub fn to_fixed(w: u32) -> Fixed
     if 73 < p.characteristic {
         return Fixed::Overflow;
     }
-    let m = integer(p.characteristic, p.fraction);
+    let m = integer(p);
     if 0x8000_0000 + p.sign as u64 <= m {
         return Fixed::Overflow;
     }
@@ -34,12 +33,14 @@ pub fn to_fixed(w: u32) -> Fixed
     })
 }
 
-// f * 16^(c - 66), cut toward zero.
-fn integer(c: u32, f: u64) -> u64
-    requires { ⌜ c ≤ 73 ⌝ }
-    requires { ⌜ f < 16 ^ 6 ⌝ }
-    ensures { λ r. ⌜ r ≡ f * 16 ^ (c + 8) / 16 ^ 74 ⌝ }
+// The magnitude times 65,536, cut toward zero: the fraction moved by its digits' distance from 66.
+fn integer(p: Parts) -> u64
+    requires { ⌜ Operand 6 p ⌝ }
+    requires { ⌜ p .characteristic ≤ 73 ⌝ }
+    ensures { λ r. ⌜ r ≡ fixedMagnitude p ⌝ }
 {
+    let c = p.characteristic;
+    let f = p.fraction;
     if 66 <= c {
         return f << (4 * (c - 66));
     }

@@ -1,52 +1,65 @@
+-- `to_fixed` meets its contract: each way out of the code has its law.
+use mathlib.Core.Path.{_≡_, sym, ap}
+use Prim.Native.Nat.{_<_}
+use native.Mathlib.Nat.{pos-of-ne-zero}
+use native.Mathlib.Omega.{arith}
+use Rattle.hexfloat.specs.declared.word.Parts.{Parts}
+use Rattle.hexfloat.specs.Word.{shortParts}
+use Rattle.hexfloat.proofs.Converted.{fixed, fixed-of-zero, fixed-large, overflows}
+use Rattle.hexfloat.proofs.Fits.{short-fits}
 use borrow.Author.Needs.{needs}
 use Rattle.hexfloat.proofs.convert.to_fixed.Statement.{statement}
 use Rattle.hexfloat.proofs.convert.to_fixed.Tie as tie
-use Rattle.hexfloat.proofs.convert.to_fixed.Reads as reads
-use Rattle.hexfloat.proofs.convert.to_fixed.Lts as lts
-use Rattle.hexfloat.proofs.code.signed_code.Reads as signed-code-reads
-use Rattle.hexfloat.proofs.convert.integer.Reads as integer-reads
-use Rattle.hexfloat.proofs.convert.signed_word.Reads as signed-word-reads
-use Rattle.hexfloat.proofs.word.short_parts.Reads as short-parts-reads
 
--- src/convert.rt:19:9
+-- src/convert.rt:18:9
 short-parts-requires : tie.Need-short-parts-requires
 short-parts-requires c κs = search needs
 
--- src/convert.rt:21:9
+-- src/convert.rt:20:9
 returns : tie.Need-returns
-returns c = ?
+returns c = sym (fixed-of-zero _ (rw (c .before .before .short-parts .ensures) at (c .if1 .taken)))
 
--- src/convert.rt:24:9
+-- src/convert.rt:23:9
 returns-2 : tie.Need-returns-2
-returns-2 c = ?
+returns-2 c =
+    let w = c .before .before .before .before .before .args .w in
+    let e = c .before .before .before .before .short-parts .ensures in
+    let far : 73 < shortParts w .characteristic = rw e at (c .if2 .taken) in
+    let some : 0 < shortParts w .fraction = pos-of-ne-zero (rw e at (c .before .before .if1 .left)) in
+    sym (overflows w (omega (arith, fixed-large (shortParts w) far some, short-fits w (c .before .before .before .before .before .fits .w .fits) .sign)))
 
--- src/convert.rt:26:9
+-- src/convert.rt:25:9
 integer-requires : tie.Need-integer-requires
-integer-requires c κs = ?
+integer-requires c κs =
+    (rw (c .before .before .before .before .short-parts .ensures) (short-fits _ (c .before .before .before .before .before .fits .w .fits)), omega arith)
 
--- src/convert.rt:27:22
+-- src/convert.rt:26:22
 cast-if3 : tie.Need-cast-if3
 cast-if3 c = search needs
 
--- src/convert.rt:27:8
+-- src/convert.rt:26:8
 add-if3 : tie.Need-add-if3
 add-if3 c = search needs
 
--- src/convert.rt:28:9
+-- src/convert.rt:27:9
 returns-3 : tie.Need-returns-3
-returns-3 c = ?
+returns-3 c = sym (overflows _ (rw (c .before .before .integer .ensures, c .before .before .before .before .before .before .before .short-parts .ensures) at (c .if3 .taken)))
 
--- src/convert.rt:30:9
+-- src/convert.rt:29:9
 signed-word-requires : tie.Need-signed-word-requires
-signed-word-requires c κs = ?
+signed-word-requires c κs =
+    omega (arith, ap (λ (p : Parts). p .sign) (c .before .before .before .before .before .before .before .short-parts .ensures), c .before .before .before .before .before .before .before .before .fits .w)
 
--- src/convert.rt:33:15
+-- src/convert.rt:32:15
 signed-code-requires : tie.Need-signed-code-requires
 signed-code-requires c κs = search needs
 
--- src/convert.rt:16:1
+-- src/convert.rt:15:1
 returns-4 : tie.Need-returns-4
-returns-4 c = ?
+returns-4 c =
+    let e = c .before .before .before .before .before .before .before .before .before .short-parts .ensures in
+    let m = c .before .before .before .before .integer .ensures in
+    rw (c .signed-code .ensures, c .before .signed-word .ensures, m, e) (sym (fixed _ (rw (m, e) at (c .before .before .if3 .left))))
 
 pub to-fixed-spec : {M : Type 1} → statement M
 to-fixed-spec =

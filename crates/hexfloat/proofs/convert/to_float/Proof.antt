@@ -1,11 +1,10 @@
+-- `to_float` meets its contract: the parts are in range, so the word is theirs.
+use mathlib.Core.Path.{ap₂, _∙_}
 use borrow.Author.Needs.{needs}
+use Rattle.hexfloat.specs.Convert.{toFloat}
+use Rattle.hexfloat.proofs.Fits.{float-fits}
 use Rattle.hexfloat.proofs.convert.to_float.Statement.{statement}
 use Rattle.hexfloat.proofs.convert.to_float.Tie as tie
-use Rattle.hexfloat.proofs.convert.to_float.Reads as reads
-use Rattle.hexfloat.proofs.convert.to_float.Lts as lts
-use Rattle.hexfloat.proofs.code.code.Reads as code-reads
-use Rattle.hexfloat.proofs.convert.float_parts.Reads as float-parts-reads
-use Rattle.hexfloat.proofs.word.short_word.Reads as short-word-reads
 
 -- src/convert.rt:65:9
 float-parts-requires : tie.Need-float-parts-requires
@@ -13,7 +12,7 @@ float-parts-requires c κs = search needs
 
 -- src/convert.rt:67:15
 short-word-requires : tie.Need-short-word-requires
-short-word-requires c κs = ?
+short-word-requires c κs = rw (c .float-parts .ensures) (float-fits _ (c .before .fits .w .fits))
 
 -- src/convert.rt:68:15
 code-requires : tie.Need-code-requires
@@ -21,7 +20,8 @@ code-requires c κs = search needs
 
 -- src/convert.rt:62:1
 returns : tie.Need-returns
-returns c = ?
+unfolding toFloat
+returns c = rw (c .code .ensures, c .before .short-word .ensures, c .before .before .float-parts .ensures)
 
 pub to-float-spec : {M : Type 1} → statement M
 to-float-spec = tie.close (tie.spec float-parts-requires short-word-requires code-requires returns)

@@ -13,14 +13,14 @@ use Rattle.hexfloat.proofs.divide.divide_long.Tie as tie
 
 -- what the quotient of the parts says
 said : (c : tie.After-divide-parts) → saysParts (c .divide-parts .result)
-  ≡ quotient 14 (c .before .before .before .args .mask) (longParts (c .before .before .before .args .a)) (longParts (c .before .before .before .args .b))
+    ≡ quotient 14 (c .before .before .before .args .mask) (longParts (c .before .before .before .args .a)) (longParts (c .before .before .before .args .b))
 said c =
     c .divide-parts .ensures
     ∙ ap₂ (λ (x y : Parts). quotient 14 (c .before .before .before .args .mask) x y) (c .before .before .long-parts .ensures) (c .before .long-parts2 .ensures)
 
 -- the same in words, where the quotient is known
 inWords : (c : tie.After-divide-parts) (q : Quotient) → c .divide-parts .result ≡ q → mapped longWord (saysParts q)
-  ≡ longQuotient (c .before .before .before .args .mask) (c .before .before .before .args .a) (c .before .before .before .args .b)
+    ≡ longQuotient (c .before .before .before .args .mask) (c .before .before .before .args .a) (c .before .before .before .args .b)
 unfolding longQuotient
 inWords c q e = ap (λ (z : Quotient). mapped longWord (saysParts z)) (sym e) ∙ ap (mapped longWord) (said c)
 

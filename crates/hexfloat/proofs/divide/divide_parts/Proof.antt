@@ -20,12 +20,12 @@ use Rattle.hexfloat.proofs.divide.zero.Reads as zero-reads
 use Rattle.hexfloat.proofs.normal.normalise.Reads as normalise-reads
 
 ready : (c : tie.After-leads) → Ready
-  (c .before .before .before .before .before .before .before .args .d)
-  (c .before .before .before .before .before .before .before .args .a)
-  (c .before .before .before .before .before .before .before .args .b)
-  (c .before .before .normalise .result)
-  (c .before .normalise2 .result)
-  (c .leads .result)
+    (c .before .before .before .before .before .before .before .args .d)
+    (c .before .before .before .before .before .before .before .args .a)
+    (c .before .before .before .before .before .before .before .args .b)
+    (c .before .before .normalise .result)
+    (c .before .normalise2 .result)
+    (c .leads .result)
 ready c = record {
   dividend = c .before .before .before .before .before .before .before .pre .0;
   divisor = c .before .before .before .before .before .before .before .pre .1;
@@ -33,7 +33,7 @@ ready c = record {
   some-divisor = c .before .before .before .before .before .if1 .left;
   normal-dividend = c .before .before .normalise .ensures;
   normal-divisor = c .before .normalise2 .ensures;
-  leads = c .leads .ensures
+  leads = c .leads .ensures;
 }
 
 -- src/divide.rt:72:9

@@ -13,14 +13,14 @@ use Rattle.hexfloat.proofs.divide.divide_short.Tie as tie
 
 -- what the quotient of the parts says
 said : (c : tie.After-divide-parts) → saysParts (c .divide-parts .result)
-  ≡ quotient 6 (c .before .before .before .args .mask) (shortParts (c .before .before .before .args .a)) (shortParts (c .before .before .before .args .b))
+    ≡ quotient 6 (c .before .before .before .args .mask) (shortParts (c .before .before .before .args .a)) (shortParts (c .before .before .before .args .b))
 said c =
     c .divide-parts .ensures
     ∙ ap₂ (λ (x y : Parts). quotient 6 (c .before .before .before .args .mask) x y) (c .before .before .short-parts .ensures) (c .before .short-parts2 .ensures)
 
 -- the same in words, where the quotient is known
 inWords : (c : tie.After-divide-parts) (q : Quotient) → c .divide-parts .result ≡ q → mapped shortWord (saysParts q)
-  ≡ shortQuotient (c .before .before .before .args .mask) (c .before .before .before .args .a) (c .before .before .before .args .b)
+    ≡ shortQuotient (c .before .before .before .args .mask) (c .before .before .before .args .a) (c .before .before .before .args .b)
 unfolding shortQuotient
 inWords c q e = ap (λ (z : Quotient). mapped shortWord (saysParts z)) (sym e) ∙ ap (mapped shortWord) (said c)
 
