@@ -12,36 +12,27 @@ use Rattle.hexfloat.proofs.Normalised.{most, place-most}
 use borrow.Author.Needs.{needs}
 use Rattle.hexfloat.proofs.compare.key.Statement.{statement}
 use Rattle.hexfloat.proofs.compare.key.Tie as tie
-use Rattle.hexfloat.proofs.compare.key.Reads as reads
-use Rattle.hexfloat.proofs.compare.key.Lts as lts
-use Rattle.hexfloat.proofs.normal.normalise.Reads as normalise-reads
 
 -- the key of a normalised operand is a u64
 fits : {d : ℕ} {p : Parts} {n : Normal} → Operand d p → n ≡ normalised d p → (n .place ≤ 141) × (n .fraction < 2 ^ 56)
 fits o e = rw e (place-most o, lt-of-lt-of-le (most o) (mono {j = 14} (o .most)))
 
--- src/compare.rt:54:9
 returns : tie.Need-returns
 unfolding keyOf
 returns c = rw (eq-eqb _ _ (c .if1 .taken))
 
--- src/compare.rt:56:9
 normalise-requires : tie.Need-normalise-requires
 normalise-requires c κs = search needs
 
--- src/compare.rt:57:5
 cast-result : tie.Need-cast-result
 cast-result c = search needs
 
--- src/compare.rt:57:5
 mul-result : tie.Need-mul-result
 mul-result c = omega (arith, fits (c .before .before .before .before .pre) (c .before .normalise .ensures))
 
--- src/compare.rt:57:5
 add-result : tie.Need-add-result
 add-result c = omega (arith, fits (c .before .before .before .before .before .pre) (c .before .before .normalise .ensures))
 
--- src/compare.rt:49:1
 returns-2 : tie.Need-returns-2
 unfolding keyOf
 returns-2 c =

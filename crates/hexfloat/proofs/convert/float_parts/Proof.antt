@@ -20,32 +20,25 @@ place-is z m e = omega arith
 zeros : (c : tie.After-magnitude) → leadingZeros 32 (c .magnitude .result) / 4 + digits (c .magnitude .result) ≡ 8
 zeros c = leading-digits 8 (c .magnitude .result) (c .magnitude .ok)
 
--- src/convert.rt:75:9
 magnitude-requires : tie.Need-magnitude-requires
 magnitude-requires c κs = search needs
 
--- src/convert.rt:77:9
 returns : tie.Need-returns
 unfolding floatParts
 returns c = rw (eq-eqb (wordMagnitude (c .before .before .args .w)) 0 (sym (c .before .magnitude .ensures) ∙ c .if1 .taken))
 
--- src/convert.rt:86:25
 sub-t6 : tie.Need-sub-t6
 sub-t6 c = omega (arith, zeros (c .before))
 
--- src/convert.rt:87:26
 mul-t7 : tie.Need-mul-t7
 mul-t7 c = omega (arith, zeros (c .before))
 
--- src/convert.rt:87:20
 shl-t8 : tie.Need-shl-t8
 shl-t8 c = omega (arith, zeros (c .before), digits-positive (pos-of-ne-zero (c .if1 .left)))
 
--- src/convert.rt:87:19
 cast-t9 : tie.Need-cast-t9
 cast-t9 c = search needs
 
--- src/convert.rt:72:1
 returns-2 : tie.Need-returns-2
 unfolding floatParts
 returns-2 c =

@@ -10,19 +10,15 @@ use borrow.Author.Needs.{needs}
 use Rattle.hexfloat.proofs.convert.integer.Statement.{statement}
 use Rattle.hexfloat.proofs.convert.integer.Tie as tie
 
--- src/convert.rt:45:22
 mul-result : tie.Need-mul-result
 mul-result c = search needs
 
--- src/convert.rt:45:22
 cast-result : tie.Need-cast-result
 cast-result c = search needs
 
--- src/convert.rt:45:16
 shl-result : tie.Need-shl-result
 shl-result c = search needs
 
--- src/convert.rt:45:9
 returns : tie.Need-returns
 returns c =
     let p = c .before .args .p in
@@ -31,29 +27,23 @@ returns c =
     lt-of-lt-of-le (mul-lt-mul-of-pos-right (c .before .pre .0 .fraction) (pos k)) (le-trans (le-of-eq (sym (pow-add 16 6 k))) (mono {j = 16} (omega arith))) in
     moved-left (p .fraction) k fits ∙ sym (converted.moved-left p (c .if1 .taken))
 
--- src/convert.rt:47:28
 sub-result : tie.Need-sub-result
 sub-result c = search needs
 
--- src/convert.rt:47:23
 mul-result-2 : tie.Need-mul-result-2
 mul-result-2 c = search needs
 
--- src/convert.rt:47:23
 cast-result-2 : tie.Need-cast-result-2
 cast-result-2 c = search needs
 
--- src/convert.rt:47:17
 shr-result : tie.Need-shr-result
 shr-result c = search needs
 
--- src/convert.rt:37:1
 returns-2 : tie.Need-returns-2
 returns-2 c =
     let p = c .before .before .args .p in
     ap (λ (z : ℕ). p .fraction / z) (four-bits (66 - p .characteristic)) ∙ sym (converted.moved-right p (omega arith))
 
--- src/convert.rt:37:1
 returns-3 : tie.Need-returns-3
 returns-3 c = sym (converted.moved-out (c .before .before .args .p) (omega arith) (c .before .before .pre .0 .fraction))
 

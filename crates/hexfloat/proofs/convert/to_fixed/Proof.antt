@@ -11,15 +11,12 @@ use borrow.Author.Needs.{needs}
 use Rattle.hexfloat.proofs.convert.to_fixed.Statement.{statement}
 use Rattle.hexfloat.proofs.convert.to_fixed.Tie as tie
 
--- src/convert.rt:18:9
 short-parts-requires : tie.Need-short-parts-requires
 short-parts-requires c κs = search needs
 
--- src/convert.rt:20:9
 returns : tie.Need-returns
 returns c = sym (fixed-of-zero _ (rw (c .before .before .short-parts .ensures) at (c .if1 .taken)))
 
--- src/convert.rt:23:9
 returns-2 : tie.Need-returns-2
 returns-2 c =
     let w = c .before .before .before .before .before .args .w in
@@ -28,33 +25,26 @@ returns-2 c =
     let some : 0 < shortParts w .fraction = pos-of-ne-zero (rw e at (c .before .before .if1 .left)) in
     sym (overflows w (omega (arith, fixed-large (shortParts w) far some, short-fits w (c .before .before .before .before .before .fits .w .fits) .sign)))
 
--- src/convert.rt:25:9
 integer-requires : tie.Need-integer-requires
 integer-requires c κs =
     (rw (c .before .before .before .before .short-parts .ensures) (short-fits _ (c .before .before .before .before .before .fits .w .fits)), omega arith)
 
--- src/convert.rt:26:22
 cast-if3 : tie.Need-cast-if3
 cast-if3 c = search needs
 
--- src/convert.rt:26:8
 add-if3 : tie.Need-add-if3
 add-if3 c = search needs
 
--- src/convert.rt:27:9
 returns-3 : tie.Need-returns-3
 returns-3 c = sym (overflows _ (rw (c .before .before .integer .ensures, c .before .before .before .before .before .before .before .short-parts .ensures) at (c .if3 .taken)))
 
--- src/convert.rt:29:9
 signed-word-requires : tie.Need-signed-word-requires
 signed-word-requires c κs =
     omega (arith, ap (λ (p : Parts). p .sign) (c .before .before .before .before .before .before .before .short-parts .ensures), c .before .before .before .before .before .before .before .before .fits .w)
 
--- src/convert.rt:32:15
 signed-code-requires : tie.Need-signed-code-requires
 signed-code-requires c κs = search needs
 
--- src/convert.rt:15:1
 returns-4 : tie.Need-returns-4
 returns-4 c =
     let e = c .before .before .before .before .before .before .before .before .before .short-parts .ensures in

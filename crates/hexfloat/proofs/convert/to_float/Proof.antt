@@ -6,19 +6,15 @@ use Rattle.hexfloat.proofs.Fits.{float-fits}
 use Rattle.hexfloat.proofs.convert.to_float.Statement.{statement}
 use Rattle.hexfloat.proofs.convert.to_float.Tie as tie
 
--- src/convert.rt:65:9
 float-parts-requires : tie.Need-float-parts-requires
 float-parts-requires c κs = search needs
 
--- src/convert.rt:67:15
 short-word-requires : tie.Need-short-word-requires
 short-word-requires c κs = rw (c .float-parts .ensures) (float-fits _ (c .before .fits .w .fits))
 
--- src/convert.rt:68:15
 code-requires : tie.Need-code-requires
 code-requires c κs = search needs
 
--- src/convert.rt:62:1
 returns : tie.Need-returns
 unfolding toFloat
 returns c = rw (c .code .ensures, c .before .short-word .ensures, c .before .before .float-parts .ensures)

@@ -24,52 +24,40 @@ inWords : (c : tie.After-divide-parts) (q : Quotient) → c .divide-parts .resul
 unfolding longQuotient
 inWords c q e = ap (λ (z : Quotient). mapped longWord (saysParts z)) (sym e) ∙ ap (mapped longWord) (said c)
 
--- src/divide.rt:54:9
 long-parts-requires : tie.Need-long-parts-requires
 long-parts-requires c κs = search needs
 
--- src/divide.rt:55:9
 long-parts-requires-2 : tie.Need-long-parts-requires-2
 long-parts-requires-2 c κs = search needs
 
--- src/divide.rt:51:9
 divide-parts-requires : tie.Need-divide-parts-requires
 divide-parts-requires c κs = (rw (c .before .long-parts .ensures) (long-fits _ (omega arith) (omega arith)), rw (c .long-parts2 .ensures) (long-fits _ (omega arith) (omega arith)))
 
--- src/divide.rt:58:22
 enum-known-q : tie.Need-enum-known-q
 enum-known-q c = search needs
 
--- src/divide.rt:58:47
 long-word-requires : tie.Need-long-word-requires
 long-word-requires c κs =
     quotient-fits 14 _ _ _ _ (omega arith) (omega arith) (sym (said (c .before .before .before)) ∙ ap saysParts (c .before .q .given .1))
 
--- src/divide.rt:59:34
 enum-told : tie.Need-enum-told
 enum-told c = search needs
 
--- src/divide.rt:60:31
 enum-told-2 : tie.Need-enum-told-2
 enum-told-2 c = search needs
 
--- src/divide.rt:61:32
 enum-told-3 : tie.Need-enum-told-3
 enum-told-3 c = search needs
 
--- src/divide.rt:48:1
 returns : tie.Need-returns
 returns c = ap gives (c .long-word .ensures) ∙ inWords (c .before .before .before .before) _ (c .before .before .q .given .1)
 
--- src/divide.rt:48:1
 returns-2 : tie.Need-returns-2
 returns-2 c = inWords (c .before .before) _ (c .enum-told .given .1)
 
--- src/divide.rt:48:1
 returns-3 : tie.Need-returns-3
 returns-3 c = inWords (c .before .before) _ (c .enum-told2 .given .1)
 
--- src/divide.rt:48:1
 returns-4 : tie.Need-returns-4
 returns-4 c = inWords (c .before .before) _ (c .enum-told3 .given .1)
 

@@ -11,13 +11,6 @@ use Rattle.hexfloat.proofs.Quotients.{by-zero, of-zero}
 use borrow.Author.Needs.{needs}
 use Rattle.hexfloat.proofs.divide.divide_parts.Statement.{statement}
 use Rattle.hexfloat.proofs.divide.divide_parts.Tie as tie
-use Rattle.hexfloat.proofs.divide.divide_parts.Reads as reads
-use Rattle.hexfloat.proofs.divide.divide_parts.Lts as lts
-use Rattle.hexfloat.proofs.divide.leading_digits.Reads as leading-digits-reads
-use Rattle.hexfloat.proofs.divide.leads.Reads as leads-reads
-use Rattle.hexfloat.proofs.divide.on_underflow.Reads as on-underflow-reads
-use Rattle.hexfloat.proofs.divide.zero.Reads as zero-reads
-use Rattle.hexfloat.proofs.normal.normalise.Reads as normalise-reads
 
 ready : (c : tie.After-leads) → Ready
     (c .before .before .before .before .before .before .before .args .d)
@@ -36,65 +29,50 @@ ready c = record {
   leads = c .leads .ensures;
 }
 
--- src/divide.rt:72:9
 returns : tie.Need-returns
 returns c = sym (by-zero _ _ _ _ (zero-is-zero (c .before .before .pre .1) (c .if1 .taken)))
 
--- src/divide.rt:75:29
 zero-requires : tie.Need-zero-requires
 zero-requires c κs = search needs
 
--- src/divide.rt:75:9
 returns-2 : tie.Need-returns-2
 returns-2 c =
     ap gives (c .zero .ensures)
     ∙ sym (of-zero _ _ _ _ (positive (c .before .before .before .before .before .pre .1) (pos-of-ne-zero (c .before .before .before .if1 .left))) (zero-is-zero (c .before .before .before .before .before .pre .0) (c .before .if2 .taken)))
 
--- src/divide.rt:77:9
 normalise-requires : tie.Need-normalise-requires
 normalise-requires c κs = search needs
 
--- src/divide.rt:78:9
 normalise-requires-2 : tie.Need-normalise-requires-2
 normalise-requires-2 c κs = search needs
 
--- src/divide.rt:79:9
 leads-requires : tie.Need-leads-requires
 leads-requires c κs = search needs
 
--- src/divide.rt:80:14
 add-up : tie.Need-add-up
 add-up c = omega (arith, left-place (ready (c .before)))
 
--- src/divide.rt:80:14
 add-up-2 : tie.Need-add-up-2
 add-up-2 c = omega (arith, left-place (ready (c .before)), few (ready (c .before)))
 
--- src/divide.rt:82:9
 on-underflow-requires : tie.Need-on-underflow-requires
 on-underflow-requires c κs = search needs
 
--- src/divide.rt:82:9
 returns-3 : tie.Need-returns-3
 returns-3 c = c .on-underflow .ensures ∙ sym (small (ready (c .before .before .before .before)) _ (c .before .if3 .taken))
 
--- src/divide.rt:86:9
 returns-4 : tie.Need-returns-4
 returns-4 c = sym (large (ready (c .before .before .before .before .before)) (c .before .before .if3 .left) _ (c .if4 .taken))
 
--- src/divide.rt:89:16
 add-t12 : tie.Need-add-t12
 add-t12 c = search needs
 
--- src/divide.rt:91:37
 sub-leading-digits : tie.Need-sub-leading-digits
 sub-leading-digits c = omega (arith, few (ready (c .before .before .before .before .before .before .before)), ready (c .before .before .before .before .before .before .before) .dividend .some)
 
--- src/divide.rt:91:19
 leading-digits-requires : tie.Need-leading-digits-requires
 leading-digits-requires c κs = dividends (ready (c .before .before .before .before .before .before .before))
 
--- src/divide.rt:66:1
 returns-5 : tie.Need-returns-5
 returns-5 c =
     rw (c .leading-digits .ensures)

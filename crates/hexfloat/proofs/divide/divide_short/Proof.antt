@@ -24,52 +24,40 @@ inWords : (c : tie.After-divide-parts) (q : Quotient) → c .divide-parts .resul
 unfolding shortQuotient
 inWords c q e = ap (λ (z : Quotient). mapped shortWord (saysParts z)) (sym e) ∙ ap (mapped shortWord) (said c)
 
--- src/divide.rt:37:9
 short-parts-requires : tie.Need-short-parts-requires
 short-parts-requires c κs = search needs
 
--- src/divide.rt:38:9
 short-parts-requires-2 : tie.Need-short-parts-requires-2
 short-parts-requires-2 c κs = search needs
 
--- src/divide.rt:34:9
 divide-parts-requires : tie.Need-divide-parts-requires
 divide-parts-requires c κs = (rw (c .before .short-parts .ensures) (short-fits _ (c .before .before .fits .a .fits)), rw (c .short-parts2 .ensures) (short-fits _ (c .before .before .fits .b .fits)))
 
--- src/divide.rt:41:22
 enum-known-q : tie.Need-enum-known-q
 enum-known-q c = search needs
 
--- src/divide.rt:41:48
 short-word-requires : tie.Need-short-word-requires
 short-word-requires c κs =
     quotient-fits 6 _ _ _ _ (omega arith) (omega arith) (sym (said (c .before .before .before)) ∙ ap saysParts (c .before .q .given .1))
 
--- src/divide.rt:42:34
 enum-told : tie.Need-enum-told
 enum-told c = search needs
 
--- src/divide.rt:43:31
 enum-told-2 : tie.Need-enum-told-2
 enum-told-2 c = search needs
 
--- src/divide.rt:44:32
 enum-told-3 : tie.Need-enum-told-3
 enum-told-3 c = search needs
 
--- src/divide.rt:31:1
 returns : tie.Need-returns
 returns c = ap gives (c .short-word .ensures) ∙ inWords (c .before .before .before .before) _ (c .before .before .q .given .1)
 
--- src/divide.rt:31:1
 returns-2 : tie.Need-returns-2
 returns-2 c = inWords (c .before .before) _ (c .enum-told .given .1)
 
--- src/divide.rt:31:1
 returns-3 : tie.Need-returns-3
 returns-3 c = inWords (c .before .before) _ (c .enum-told2 .given .1)
 
--- src/divide.rt:31:1
 returns-4 : tie.Need-returns-4
 returns-4 c = inWords (c .before .before) _ (c .enum-told3 .given .1)
 

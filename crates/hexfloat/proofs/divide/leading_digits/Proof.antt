@@ -6,9 +6,6 @@ use native.Mathlib.Omega.{arith}
 use Rattle.hexfloat.proofs.Dividing.{Dividing, start, on, end, fits, rest-fits}
 use Rattle.hexfloat.proofs.divide.leading_digits.Statement.{statement}
 use Rattle.hexfloat.proofs.divide.leading_digits.Tie as tie
-use Rattle.hexfloat.proofs.divide.leading_digits.Reads as reads
-use Rattle.hexfloat.proofs.divide.leading_digits.Lts as lts
-use Rattle.hexfloat.proofs.divide.least.Reads as least-reads
 
 abbrev Inv-loop : tie.InvT-loop
 Inv-loop d n a b q₀ rest₀ left₀ q rest left = Dividing d n a b q rest left
@@ -16,7 +13,6 @@ Inv-loop d n a b q₀ rest₀ left₀ q rest left = Dividing d n a b q rest left
 abbrev μ-loop : tie.MeasureT-loop
 μ-loop d n a b q₀ rest₀ left₀ q rest left = left
 
--- src/divide.rt:121:5
 loop-holds : tie.Need-loop-holds Inv-loop μ-loop
 loop-holds c = start (c .pre .dividend)
 
@@ -38,65 +34,50 @@ module _ (c : tie.After-least Inv-loop μ-loop) where
       (c .before .before .loop .left - c .least .result)
   turned = on (c .before .before .loop .inv) (c .least .result) (omega arith) (le-of-lt (c .before .before .before .pre .divisor)) (omega arith) (omega arith)
 
--- src/divide.rt:122:29
 sub-least : tie.Need-sub-least Inv-loop μ-loop
 sub-least c = omega arith
 
--- src/divide.rt:122:13
 least-requires : tie.Need-least-requires Inv-loop μ-loop
 least-requires c κs = tt
 
--- src/divide.rt:123:32
 mul-shifted : tie.Need-mul-shifted Inv-loop μ-loop
 mul-shifted c = omega arith
 
--- src/divide.rt:123:32
 cast-shifted : tie.Need-cast-shifted Inv-loop μ-loop
 cast-shifted c = omega arith
 
--- src/divide.rt:123:23
 shl-shifted : tie.Need-shl-shifted Inv-loop μ-loop
 shl-shifted c = omega arith
 
--- src/divide.rt:124:20
 mul-q : tie.Need-mul-q Inv-loop μ-loop
 mul-q c = omega arith
 
--- src/divide.rt:124:20
 cast-q : tie.Need-cast-q Inv-loop μ-loop
 cast-q c = omega arith
 
--- src/divide.rt:124:14
 shl-q : tie.Need-shl-q Inv-loop μ-loop
 shl-q c = omega arith
 
--- src/divide.rt:124:30
 div-q : tie.Need-div-q Inv-loop μ-loop
 div-q c = omega arith
 
--- src/divide.rt:124:13
 add-q : tie.Need-add-q Inv-loop μ-loop
 add-q c =
     rw (q-moved c, rest-moved c)
     (record { fits = lt-of-le-of-lt (le-of-eq (sym (mul-one _))) (fits (turned c) (c .before .before .before .pre .positive) (c .before .before .before .pre .near) (c .before .before .before .pre .few) 0 (omega arith)) })
 
--- src/divide.rt:125:16
 rem-rest : tie.Need-rem-rest Inv-loop μ-loop
 rem-rest c = omega arith
 
--- src/divide.rt:126:9
 sub-left : tie.Need-sub-left Inv-loop μ-loop
 sub-left c = omega arith
 
--- src/divide.rt:121:5
 loop-less : tie.Need-loop-less Inv-loop μ-loop
 loop-less c = omega arith
 
--- src/divide.rt:121:5
 loop-again : tie.Need-loop-again Inv-loop μ-loop
 loop-again c = rw (q-moved c, rest-moved c) (turned c)
 
--- src/divide.rt:114:1
 returns : tie.Need-returns Inv-loop μ-loop
 returns c =
     let z : c .before .loop .left ≡ 0 = omega arith in

@@ -2,14 +2,10 @@
 use borrow.Author.Tests.{lt-ltb, le-ltb}
 use Rattle.hexfloat.proofs.divide.leads.Statement.{statement}
 use Rattle.hexfloat.proofs.divide.leads.Tie as tie
-use Rattle.hexfloat.proofs.divide.leads.Reads as reads
-use Rattle.hexfloat.proofs.divide.leads.Lts as lts
 
--- src/divide.rt:96:1
 returns : tie.Need-returns
 returns c = rw (lt-ltb _ _ (c .if1 .taken))
 
--- src/divide.rt:96:1
 returns-2 : tie.Need-returns-2
 returns-2 c = rw (le-ltb _ _ (c .if1 .left))
 

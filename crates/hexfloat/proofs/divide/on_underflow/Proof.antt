@@ -4,19 +4,13 @@ use Rattle.hexfloat.specs.Answer.{gives}
 use borrow.Author.Needs.{needs}
 use Rattle.hexfloat.proofs.divide.on_underflow.Statement.{statement}
 use Rattle.hexfloat.proofs.divide.on_underflow.Tie as tie
-use Rattle.hexfloat.proofs.divide.on_underflow.Reads as reads
-use Rattle.hexfloat.proofs.divide.on_underflow.Lts as lts
-use Rattle.hexfloat.proofs.divide.zero.Reads as zero-reads
 
--- src/divide.rt:118:22
 zero-requires : tie.Need-zero-requires
 zero-requires c κs = search needs
 
--- src/divide.rt:112:1
 returns : tie.Need-returns
 returns c = search needs
 
--- src/divide.rt:112:1
 returns-2 : tie.Need-returns-2
 returns-2 c = rw (c .before .if1 .left) (ap gives (c .zero .ensures))
 
