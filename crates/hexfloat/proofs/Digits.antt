@@ -1,10 +1,9 @@
 -- Laws of powers of 16 and of how many hexadecimal digits a number has.
 use mathlib.Core.Path.{_≡_, refl, sym, ap, _∙_}
-use mathlib.Core.Logic.{_⊎_, inl, inr, ⊎-elim}
-use Prim.Native.Nat.{ℕ, zero, suc, _+_, _-_, _*_, _/_, _%_, _^_, _≤_, _<_, zero-le, suc-le-suc}
-use native.Mathlib.Nat.{mod-eq-of-lt, mul-right-comm, le-refl, le-trans, le-of-eq, lt-of-lt-of-le, lt-of-le-of-lt, le-antisymm, le-of-suc-le-suc, lt-of-not-le, not-le-of-lt, zero-lt-suc, one-le-pow, pow-suc, pow-le-pow-right, mul-le-mul-right, mul-le-mul-left, mul-lt-mul-of-pos-right, lt-of-mul-lt-mul-right, div-mul-le-self, div-lt-iff-lt-mul, le-div-iff-mul-le, eq-zero-or-pos, mul-assoc, mul-comm, le-of-mul-le-mul-right}
+use mathlib.Core.Logic.{⊎-elim}
+use Prim.Native.Nat.{ℕ, zero, suc, _+_, _*_, _/_, _%_, _^_, _≤_, _<_, zero-le}
+use native.Mathlib.Nat.{mod-eq-of-lt, mul-right-comm, le-refl, le-trans, le-of-eq, lt-of-lt-of-le, le-antisymm, le-of-suc-le-suc, lt-of-not-le, not-le-of-lt, zero-lt-suc, one-le-pow, pow-suc, pow-le-pow-right, mul-le-mul-right, mul-lt-mul-of-pos-right, lt-of-mul-lt-mul-right, div-mul-le-self, div-lt-iff-lt-mul, eq-zero-or-pos}
 use native.Mathlib.Omega.{arith}
-use native.Mathlib.Numerals.{add-one}
 use lib.Pow.{pow-add, pow-mono}
 use lib.Count.{leadingZeros, leading-top, leading-of-zero}
 use Rattle.hexfloat.specs.Normal.{digitsIn, digits}

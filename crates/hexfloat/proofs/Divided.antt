@@ -1,15 +1,16 @@
 -- What the code of a divide has at hand, and what follows of the quotient.
-use mathlib.Core.Path.{_≡_, refl, sym, ap, ap₂, _∙_}
+use mathlib.Core.Path.{_≡_, sym, ap, ap₂, _∙_}
 use mathlib.Core.Bool.{Bool}
 use Prim.Native.Nat.{ℕ, _+_, _-_, _*_, _/_, _%_, _^_, _≤_, _<_}
 use native.Mathlib.Nat.{pos-of-ne-zero}
 use native.Mathlib.Omega.{arith}
+use Rattle.hexfloat.specs.declared.divide.Quotient.{Quotient}
 use Rattle.hexfloat.specs.declared.normal.Normal.{Normal}
 use Rattle.hexfloat.specs.declared.word.Parts.{Parts}
-use Rattle.hexfloat.specs.Answer.{gives, stops}
+use Rattle.hexfloat.specs.Answer.{gives, stops, mapped}
 use Rattle.hexfloat.specs.Normal.{characteristicOf, fractionOf, IsCharacteristic}
 use Rattle.hexfloat.specs.Word.{magnitude}
-use Rattle.hexfloat.specs.Divide.{quotient, underflow}
+use Rattle.hexfloat.specs.Divide.{saysParts, quotient, underflow}
 use Rattle.hexfloat.specs.Operand.{Operand, Dividends, normalised, leadOf}
 use Rattle.hexfloat.proofs.Digits.{pos}
 use Rattle.hexfloat.proofs.Normalised.{most, least, exact, place-most, positive}
@@ -97,3 +98,9 @@ module _ {d : ℕ} {x y : Parts} {n m : Normal} {lead : ℕ} (r : Ready d x y n 
         number d mask x y (right .positive) (left .positive) (n .place + 64 + lead - m .place) (n .fraction * 16 ^ (d - lead) / m .fraction) (not-above is h) (not-below is) c
         (ap (λ (z : ℕ). magnitude d x * 16 ^ (64 + d) / (16 ^ z * magnitude d y)) c
         ∙ fraction-is d (magnitude d x) (magnitude d y) (n .fraction) (n .place) (m .fraction) (m .place) lead (left .exact) (right .exact) (near .0) (near .1) (n .place + 64 + lead - m .place) placed (omega (arith, few, r .dividend .some)))
+
+-- The same answer in words, where the quotient that the code has is known.
+pub in-words : {A : Type 0} (word : Parts → A) (d : ℕ) (mask : Bool) {x y x′ y′ : Parts} (r q : Quotient)
+    → saysParts r ≡ quotient d mask x y → x ≡ x′ → y ≡ y′ → r ≡ q → mapped word (saysParts q) ≡ mapped word (quotient d mask x′ y′)
+in-words word d mask r q said ex ey e =
+    ap (λ (z : Quotient). mapped word (saysParts z)) (sym e) ∙ ap (mapped word) (said ∙ ap₂ (quotient d mask) ex ey)

@@ -1,7 +1,7 @@
 -- Long division by turns of several digits: what holds between two turns, and its laws (start, on, end).
-use mathlib.Core.Path.{_≡_, refl, sym, ap, _∙_}
-use Prim.Native.Nat.{ℕ, zero, suc, _+_, _-_, _*_, _/_, _%_, _^_, _≤_, _<_}
-use native.Mathlib.Nat.{le-refl, le-trans, le-of-eq, le-of-lt, lt-of-lt-of-le, lt-of-le-of-lt, le-add-right, zero-add, zero-mul, add-mul, add-assoc, mul-one, mul-assoc, mul-comm, mul-right-comm, mul-lt-mul-of-pos-right, mul-le-mul-right, mul-le-mul-left, lt-of-mul-lt-mul-right, mod-lt, div-add-mod', pow-suc}
+use mathlib.Core.Path.{_≡_, sym, ap, _∙_}
+use Prim.Native.Nat.{ℕ, _+_, _-_, _*_, _/_, _%_, _^_, _≤_, _<_}
+use native.Mathlib.Nat.{le-refl, le-trans, le-of-eq, lt-of-lt-of-le, lt-of-le-of-lt, le-add-right, zero-add, zero-mul, add-mul, add-assoc, mul-one, mul-assoc, mul-comm, mul-right-comm, mul-lt-mul-of-pos-right, mul-le-mul-right, mul-le-mul-left, lt-of-mul-lt-mul-right, mod-lt, div-add-mod', pow-suc}
 use native.Mathlib.Omega.{arith}
 use lib.Arith.{digits-div}
 use lib.Pow.{pow-add}

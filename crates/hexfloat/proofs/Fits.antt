@@ -2,14 +2,14 @@
 use mathlib.Core.Path.{_≡_, refl, sym, _∙_}
 use mathlib.Core.Bool.{Bool, true, false}
 use mathlib.Core.Logic.{⊎-elim}
-use Prim.Native.Nat.{ℕ, _+_, _*_, _/_, _%_, _^_, _≤_, _<_}
-use native.Mathlib.Nat.{ne-of-gt, zero-lt-suc, le-trans, le-of-eq, le-of-lt, lt-of-lt-of-le, lt-of-le-of-lt, lt-of-not-le, not-le-of-lt, le-of-suc-le-suc, mul-assoc, mul-lt-mul-of-pos-right, mul-comm, lt-of-mul-lt-mul-right, mod-lt, eq-zero-or-pos}
+use Prim.Native.Nat.{ℕ, _+_, _*_, _^_, _≤_, _<_}
+use native.Mathlib.Nat.{ne-of-gt, zero-lt-suc, le-of-eq, le-of-lt, lt-of-lt-of-le, lt-of-le-of-lt, lt-of-not-le, not-le-of-lt, le-of-suc-le-suc, mul-assoc, mul-lt-mul-of-pos-right, mul-comm, lt-of-mul-lt-mul-right, mod-lt, eq-zero-or-pos}
 use native.Mathlib.Omega.{arith}
 use borrow.Author.Tests.{lt-ltb, le-ltb, eq-eqb, ne-eqb}
 use lib.Pow.{pow-add}
 use Rattle.hexfloat.specs.declared.word.Parts.{Parts}
 use Rattle.hexfloat.specs.declared.word.Long.{Long}
-use Rattle.hexfloat.specs.Answer.{Answer, gives, stops}
+use Rattle.hexfloat.specs.Answer.{gives, stops}
 use Rattle.hexfloat.specs.Word.{shortParts, longParts, trueZero, magnitude}
 use Rattle.hexfloat.specs.Normal.{characteristicOf, fractionOf, IsCharacteristic, IsFraction}
 use Rattle.hexfloat.specs.Convert.{wordMagnitude, floatParts}
@@ -44,7 +44,7 @@ fraction-most {d} {a} {b} {c} {f} r s =
 gave-same : {A : Type 0} {p q : A} → gives p ≡ gives q → p ≡ q
 gave-same e = cc
 
-never : {A : Type 0} {p : A} {n : ℕ} → stops n ≡ gives p → ⊥
+pub never : {A : Type 0} {p : A} {n : ℕ} → stops n ≡ gives p → ⊥
 never e = let z : _≡_ {A = ℕ} 0 1 = cc in omega arith
 
 module _ (d : ℕ) (mask : Bool) (x y p : Parts) (some : 1 < d) (most : d ≤ 14) (e : quotient d mask x y ≡ gives p) where

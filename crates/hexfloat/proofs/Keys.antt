@@ -1,20 +1,16 @@
 -- The key of an operand orders as its exact magnitude does.
-use mathlib.Core.Path.{_≡_, refl, sym, ap, ap₂, _∙_}
+use mathlib.Core.Path.{_≡_, sym, ap, ap₂, _∙_}
 use mathlib.Core.Logic.{_⊎_, inl, inr, ⊎-elim}
-use mathlib.Core.Bool.{cond}
-use Prim.Native.Nat.{ℕ, zero, suc, _+_, _-_, _*_, _^_, _≤_, _<_}
-use native.Mathlib.Nat.{le-refl, le-of-lt, le-add-right, not-le-of-lt, add-lt-add-of-le-of-lt, suc-mul, le-trans, le-of-eq, lt-of-lt-of-le, lt-of-le-of-lt, eq-zero-or-pos, eq-of-mul-eq-mul-right, lt-of-mul-lt-mul-right, mul-lt-mul-of-pos-right, mul-le-mul-left, mul-le-mul-right, mul-assoc, zero-mul, mul-pos, pow-suc, pow-succ'}
+use Prim.Native.Nat.{ℕ, _+_, _-_, _*_, _^_, _<_}
+use native.Mathlib.Nat.{le-refl, le-of-lt, le-add-right, not-le-of-lt, add-lt-add-of-le-of-lt, suc-mul, le-trans, le-of-eq, lt-of-lt-of-le, lt-of-le-of-lt, eq-zero-or-pos, eq-of-mul-eq-mul-right, lt-of-mul-lt-mul-right, mul-lt-mul-of-pos-right, mul-le-mul-left, mul-le-mul-right, mul-assoc, zero-mul, pow-succ'}
 use native.Mathlib.Omega.{arith}
 use borrow.Author.Tests.{lt-ltb, le-ltb, eq-eqb, ne-eqb}
-use lib.Dec.{ltb, eqb}
-use Rattle.hexfloat.specs.declared.normal.Normal.{Normal}
 use Rattle.hexfloat.specs.declared.word.Parts.{Parts}
-use Rattle.hexfloat.specs.Normal.{digits}
 use Rattle.hexfloat.specs.Word.{magnitude}
 use Rattle.hexfloat.specs.Compare.{orderCode}
 use Rattle.hexfloat.specs.Operand.{Operand, normalised, keyOf}
 use Rattle.hexfloat.proofs.Digits.{pos, mono}
-use Rattle.hexfloat.proofs.Normalised.{few, most, least, exact, positive}
+use Rattle.hexfloat.proofs.Normalised.{most, least, exact, positive}
 
 pub data Order (a b : ℕ) : Type 0 where
   less : a < b → Order a b

@@ -1,4 +1,5 @@
 -- The laws that the crate's proofs share, and its theorems.
+pub mod Codes
 pub mod Compared
 pub mod Converted
 pub mod Digits

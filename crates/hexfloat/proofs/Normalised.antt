@@ -1,7 +1,7 @@
 -- Laws of a fraction of d digits moved left by its leading zero digits.
-use mathlib.Core.Path.{_≡_, refl, sym, ap, _∙_}
+use mathlib.Core.Path.{_≡_, sym, ap, _∙_}
 use Prim.Native.Nat.{ℕ, _+_, _-_, _*_, _/_, _^_, _≤_, _<_}
-use native.Mathlib.Nat.{le-trans, le-of-eq, lt-of-lt-of-le, lt-of-le-of-lt, mul-lt-mul-of-pos-right, mul-le-mul-right, mul-assoc, mul-right-comm, mul-pos}
+use native.Mathlib.Nat.{le-trans, le-of-eq, lt-of-lt-of-le, mul-lt-mul-of-pos-right, mul-le-mul-right, mul-assoc, mul-right-comm, mul-pos}
 use native.Mathlib.Omega.{arith}
 use lib.Pow.{pow-add}
 use lib.Count.{leadingZeros}

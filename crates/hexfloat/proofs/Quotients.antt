@@ -1,20 +1,18 @@
 -- Laws of the definition of a quotient, and of a quotient of normalised fractions.
-use mathlib.Core.Path.{_≡_, refl, sym, ap, ap₂, _∙_}
-use mathlib.Core.Bool.{Bool, cond}
-use Prim.Native.Nat.{ℕ, _+_, _-_, _*_, _/_, _%_, _^_, _≤_, _<_}
-use native.Mathlib.Nat.{le-refl, le-trans, le-of-eq, le-of-lt, lt-of-lt-of-le, lt-of-le-of-lt, ne-of-gt, one-mul, mul-one, mul-le-mul-left, mul-le-mul-right, mul-lt-mul-of-pos-right, lt-of-mul-lt-mul-right, le-of-mul-le-mul-right, mul-assoc, mul-comm, mul-right-comm, mul-div-mul-right}
+use mathlib.Core.Path.{_≡_, refl, sym, ap₂}
+use mathlib.Core.Bool.{Bool}
+use mathlib.Core.Logic.{_⊎_, inl, inr, ⊎-elim}
+use Prim.Native.Nat.{ℕ, _+_, _-_, _*_, _%_, _^_, _≤_, _<_}
+use native.Mathlib.Nat.{le-trans, le-of-eq, lt-of-lt-of-le, lt-of-le-of-lt, ne-of-gt, one-mul, mul-one, mul-le-mul-left, mul-le-mul-right, eq-zero-or-pos}
 use native.Mathlib.Omega.{arith}
 use borrow.Author.Tests.{lt-ltb, le-ltb, le-leb, lt-leb, eq-eqb, ne-eqb}
-use lib.Pow.{pow-add}
 use Rattle.hexfloat.specs.declared.word.Parts.{Parts}
 use Rattle.hexfloat.specs.Answer.{gives, stops}
 use Rattle.hexfloat.specs.Word.{trueZero, magnitude}
-use Rattle.hexfloat.specs.Normal.{characteristicOf, fractionOf, IsCharacteristic}
+use Rattle.hexfloat.specs.Normal.{characteristicOf, fractionOf}
 use Rattle.hexfloat.specs.Divide.{quotient, underflow}
-use Rattle.hexfloat.specs.Operand.{Operand, normalised, leadOf}
-use Rattle.hexfloat.proofs.Digits.{pos, mono, same-power}
-use Rattle.hexfloat.proofs.Normalised.{most, least, exact}
-use Rattle.hexfloat.proofs.Keys.{Order, less, same, more, order}
+use Rattle.hexfloat.specs.Operand.{leadOf}
+use Rattle.hexfloat.proofs.Digits.{pos}
 
 module _ (d : ℕ) (mask : Bool) (x y : Parts) where
   pub by-zero : magnitude d y ≡ 0 → quotient d mask x y ≡ stops 8
@@ -48,19 +46,13 @@ module _ (d : ℕ) (mask : Bool) (x y : Parts) where
           rw (ne-eqb (magnitude d y) 0 (ne-of-gt hy), ne-eqb (magnitude d x) 0 (ne-of-gt hx), lt-leb (16 ^ 63 * magnitude d y) (magnitude d x) l, le-ltb (magnitude d x * 16 ^ 65) (magnitude d y) h)
           (ap₂ (λ (u v : ℕ). gives (record { sign = (x .sign + y .sign) % 2; characteristic = u; fraction = v })) ec ef)
 
--- the digit before the point, or its lack, brings the quotient of two normalised fractions between 1/16 and 1
-pub lead-bounds : (m a b : ℕ) → a < m → b < m → m ≤ a * 16 → m ≤ b * 16 → (b * 16 ^ leadOf a b ≤ a * 16) × (a < b * 16 ^ leadOf a b)
-lead-bounds m a b ha hb la lb = go (order a b)
-  where
-    go : Order a b → (b * 16 ^ leadOf a b ≤ a * 16) × (a < b * 16 ^ leadOf a b)
-    go (less h) = rw (lt-ltb a b h) (omega arith)
-    go (same h) = rw (le-ltb a b (omega arith)) (omega arith)
-    go (more h) = rw (le-ltb a b (omega arith)) (omega arith)
+-- a lead is 0 or 1, as the fractions stand to each other
+leads : (a b : ℕ) → ((leadOf a b ≡ 0) × (a < b)) ⊎ ((leadOf a b ≡ 1) × (b ≤ a))
+leads a b = ⊎-elim (λ e. let h : b ≤ a = omega arith in inr (rw (le-ltb a b h) (refl, h))) (λ p. let h : a < b = omega arith in inl (rw (lt-ltb a b h) (refl, h))) (eq-zero-or-pos (b - a))
 
 pub lead-most : (a b : ℕ) → leadOf a b ≤ 1
-lead-most a b = go (order a b)
-  where
-    go : Order a b → leadOf a b ≤ 1
-    go (less h) = rw (lt-ltb a b h) (omega arith)
-    go (same h) = rw (le-ltb a b (omega arith)) (omega arith)
-    go (more h) = rw (le-ltb a b (omega arith)) (omega arith)
+lead-most a b = ⊎-elim (λ l. rw (l .0) (omega arith)) (λ l. rw (l .0) (omega arith)) (leads a b)
+
+-- it brings the quotient of two normalised fractions between 1/16 and 1
+pub lead-bounds : (m a b : ℕ) → a < m → b < m → m ≤ a * 16 → m ≤ b * 16 → (b * 16 ^ leadOf a b ≤ a * 16) × (a < b * 16 ^ leadOf a b)
+lead-bounds m a b ha hb la lb = ⊎-elim (λ l. rw (l .0) (omega arith)) (λ l. rw (l .0) (omega arith)) (leads a b)

@@ -1,9 +1,9 @@
 -- An exact ratio a / b as a normalised number: the characteristic and the fraction that the definitions compute are the ones that the bounds of the
 -- papers name, and no others. Each law is stated once, over the digits d and, for the powers that the papers fix, over a numerator p.
-use mathlib.Core.Path.{_≡_, refl, sym, ap, _∙_, subst}
-use mathlib.Core.Logic.{_⊎_, inl, inr, ⊎-elim}
+use mathlib.Core.Path.{_≡_, sym, ap, _∙_, subst}
+use mathlib.Core.Logic.{⊎-elim}
 use Prim.Native.Nat.{ℕ, zero, suc, _+_, _-_, _*_, _/_, _^_, _≤_, _<_, zero-le}
-use native.Mathlib.Nat.{one-mul, le-refl, le-trans, le-of-eq, lt-of-lt-of-le, lt-of-le-of-lt, le-antisymm, le-of-suc-le-suc, lt-of-not-le, not-le-of-lt, zero-lt-suc, pow-suc, mul-le-mul-right, mul-le-mul-left, mul-lt-mul-of-pos-right, lt-of-mul-lt-mul-right, le-of-mul-le-mul-right, div-mul-le-self, lt-div-mul-add, div-lt-iff-lt-mul, le-div-iff-mul-le, div-eq-of-lt-le, mul-assoc, mul-comm, mul-right-comm, mul-left-comm, suc-mul, mul-pos, eq-zero-or-pos}
+use native.Mathlib.Nat.{one-mul, le-trans, le-of-eq, lt-of-lt-of-le, lt-of-le-of-lt, le-antisymm, le-of-suc-le-suc, not-le-of-lt, zero-lt-suc, pow-suc, mul-le-mul-right, mul-le-mul-left, lt-of-mul-lt-mul-right, le-of-mul-le-mul-right, div-mul-le-self, lt-div-mul-add, div-lt-iff-lt-mul, le-div-iff-mul-le, div-eq-of-lt-le, mul-assoc, mul-comm, mul-right-comm, suc-mul, mul-pos, eq-zero-or-pos}
 use native.Mathlib.Omega.{arith}
 use native.Mathlib.Numerals.{add-one}
 use lib.Pow.{pow-add}

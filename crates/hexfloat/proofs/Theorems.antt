@@ -1,13 +1,13 @@
 -- The theorems of specs/Theorems.antt: the exact value decides, and there is one number that it gives.
-use mathlib.Core.Path.{_≡_, refl, sym, ap, _∙_}
+use mathlib.Core.Path.{sym, _∙_}
 use mathlib.Core.Bool.{Bool}
 use mathlib.Core.Logic.{_⊎_, inl, inr}
-use Prim.Native.Nat.{ℕ, suc, _*_, _+_, _/_, _^_, _≤_, _<_}
-use native.Mathlib.Nat.{le-of-eq, le-of-lt, lt-of-not-le, not-le-of-lt, ne-of-gt, mul-pos}
+use Prim.Native.Nat.{ℕ, _*_, _+_, _/_, _^_, _<_}
+use native.Mathlib.Nat.{le-of-eq, le-of-lt, not-le-of-lt, ne-of-gt, mul-pos}
 use borrow.Author.Tests.{eq-eqb, ne-eqb}
 use Rattle.hexfloat.specs.declared.word.Parts.{Parts}
 use Rattle.hexfloat.specs.Word.{magnitude}
-use Rattle.hexfloat.specs.Normal.{characteristicOf, fractionOf, IsCharacteristic, IsFraction, IsBelowZero}
+use Rattle.hexfloat.specs.Normal.{characteristicOf, IsCharacteristic, IsBelowZero}
 use Rattle.hexfloat.specs.Convert.{fixedMagnitude, wordMagnitude, floatParts}
 use Rattle.hexfloat.specs.Theorems.{OneNumber, ExactQuotient, ExactFixed, ExactFloat}
 use Rattle.hexfloat.proofs.Digits.{pos}

@@ -1,11 +1,16 @@
 -- Condition codes: 0, 1 and 3 are the manual's 00, 01 and 11 (8.7).
-use Prim.Native.Nat.{ℕ, _*_, _/_, _^_, _-_}
+use Prim.Native.Nat.{ℕ, _^_, _-_}
 use mathlib.Core.Bool.{cond}
-use lib.Dec.{ltb, leb, eqb}
+use lib.Dec.{ltb, eqb}
 use Rattle.hexfloat.specs.declared.word.Parts.{Parts}
-use Rattle.hexfloat.specs.declared.word.Coded.{Coded}
 use Rattle.hexfloat.specs.declared.word.Long.{Long}
-use Rattle.hexfloat.specs.Word.{shortParts, longParts, shortWord, trueZero}
+use Rattle.hexfloat.specs.Word.{shortParts, longParts, shortWord}
+
+-- 8.7: the codes that are set; state 10 never is
+pub data IsCode : ℕ → Type 0 where
+  zero : IsCode 0
+  greater : IsCode 1
+  less : IsCode 3
 
 -- 8.17 to 8.19: 0 for a zero fraction, else 3 for a negative number and 1 for a positive one
 unfoldable pub codeOf : Parts → ℕ

@@ -1,7 +1,7 @@
 -- Conversions between floating and fixed point (8.13, 8.14; document 01, 'Orders'). A general word is a signed number over 65,536.
-use Prim.Native.Nat.{ℕ, _+_, _-_, _*_, _/_, _%_, _^_}
+use Prim.Native.Nat.{ℕ, _+_, _-_, _/_, _%_, _^_}
 use mathlib.Core.Bool.{cond}
-use lib.Dec.{ltb, leb, eqb}
+use lib.Dec.{ltb, eqb}
 use Rattle.hexfloat.specs.declared.word.Parts.{Parts}
 use Rattle.hexfloat.specs.declared.word.Coded.{Coded}
 use Rattle.hexfloat.specs.declared.convert.Fixed.{Fixed}

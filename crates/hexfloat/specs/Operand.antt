@@ -1,6 +1,5 @@
 -- What the private functions of the crate hand each other: operands in range, and their normalised form (8.3).
 use Prim.Native.Nat.{ℕ, _+_, _-_, _*_, _^_, _≤_, _<_}
-use mathlib.Core.Path.{_≡_}
 use mathlib.Core.Bool.{cond}
 use lib.Dec.{ltb, eqb}
 use Rattle.hexfloat.specs.declared.normal.Normal.{Normal}

@@ -3,11 +3,15 @@ use mathlib.Core.Path.{_≡_}
 use mathlib.Core.Bool.{Bool}
 use mathlib.Core.Logic.{_⊎_}
 use Prim.Native.Nat.{ℕ, suc, _+_, _*_, _%_, _^_, _≤_, _<_}
+use Rattle.hexfloat.specs.declared.word.Coded.{Coded}
+use Rattle.hexfloat.specs.declared.word.Long.{Long}
 use Rattle.hexfloat.specs.declared.word.Parts.{Parts}
 use Rattle.hexfloat.specs.Answer.{gives, stops}
 use Rattle.hexfloat.specs.Word.{trueZero, magnitude}
+use Rattle.hexfloat.specs.Code.{IsCode, shortCode, longCode, generalCode}
+use Rattle.hexfloat.specs.Compare.{comparedShort, comparedLong}
 use Rattle.hexfloat.specs.Normal.{IsCharacteristic, IsFraction, IsBelowZero}
-use Rattle.hexfloat.specs.Convert.{fixedMagnitude, wordMagnitude, floatParts}
+use Rattle.hexfloat.specs.Convert.{fixedMagnitude, wordMagnitude, floatParts, toFixed, toFloat}
 use Rattle.hexfloat.specs.Divide.{quotient, underflow}
 
 -- For whole numbers a and b above 0 there is one characteristic of a / b, 0 or more or below 0, and to it one fraction of d digits.
@@ -41,3 +45,13 @@ pub record ExactFloat (w : ℕ) : Type 0 where
   pub zero : wordMagnitude w ≡ 0 → floatParts w ≡ trueZero
   pub characteristic : 0 < wordMagnitude w → IsCharacteristic (wordMagnitude w) 65536 (floatParts w .characteristic)
   pub fraction : 0 < wordMagnitude w → IsFraction 6 (wordMagnitude w) 65536 (floatParts w .characteristic) (floatParts w .fraction)
+
+-- 8.7: every condition code that an order sets is 0, 1 or 3.
+pub record CodesSet : Type 0 where
+  pub short : (w : ℕ) → IsCode (shortCode w)
+  pub long : (a : Long) → IsCode (longCode a)
+  pub general : (w : ℕ) → IsCode (generalCode w)
+  pub compare-short : (a b : ℕ) → IsCode (comparedShort a b)
+  pub compare-long : (a b : Long) → IsCode (comparedLong a b)
+  pub fixed : (w : ℕ) (c : Coded) → toFixed w ≡ gives c → IsCode (c .code)
+  pub float : (w : ℕ) → IsCode (toFloat w .code)

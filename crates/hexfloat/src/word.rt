@@ -1,6 +1,6 @@
 // Short and long words and their parts (8.1, 8.2).
 ghost use mathlib.Core.Path.{_≡_};
-ghost use Prim.Native.Nat.{_+_, _*_, _<_, _≤_, _^_};
+ghost use Prim.Native.Nat.{_+_, _*_};
 ghost use Rattle.hexfloat.specs.Word.{shortParts, longParts, shortWord, longWord};
 ghost use Rattle.hexfloat.specs.Operand.{Operand};
 

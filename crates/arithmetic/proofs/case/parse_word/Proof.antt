@@ -1,5 +1,4 @@
 use Prim.Native.Nat.{_-_, _^_, _≤_, _<_}
-use native.Mathlib.Omega.{arith}
 use borrow.Author.Needs.{needs}
 use Rattle.arithmetic.proofs.case.parse_word.Statement.{statement}
 use Rattle.arithmetic.proofs.case.parse_word.Tie as tie

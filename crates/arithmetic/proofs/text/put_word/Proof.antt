@@ -1,5 +1,4 @@
 use Prim.Native.Nat.{_≤_}
-use native.Mathlib.Omega.{arith}
 use borrow.Author.Needs.{needs}
 use Rattle.arithmetic.proofs.text.put_word.Statement.{statement}
 use Rattle.arithmetic.proofs.text.put_word.Tie as tie

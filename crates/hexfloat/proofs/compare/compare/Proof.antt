@@ -1,5 +1,5 @@
 -- `compare` meets its contract: each way through the signs has its law.
-use mathlib.Core.Path.{_≡_, sym, _∙_}
+use mathlib.Core.Path.{sym, _∙_}
 use borrow.Author.Needs.{needs}
 use Rattle.hexfloat.proofs.Compared.{both-positive, both-negative, above, above-zero, below, below-zero}
 use Rattle.hexfloat.proofs.compare.compare.Statement.{statement}

@@ -1,5 +1,4 @@
 -- `compare_short` meets its contract: a word's parts are in range.
-use native.Mathlib.Omega.{arith}
 use borrow.Author.Needs.{needs}
 use Rattle.hexfloat.specs.Compare.{comparedShort}
 use Rattle.hexfloat.proofs.Fits.{short-fits}

@@ -1,7 +1,7 @@
 -- `float_parts` meets its contract: the leading zero bits over four are the leading zero digits of eight.
 use mathlib.Core.Path.{_≡_, sym, ap, _∙_}
 use Prim.Native.Nat.{ℕ, _+_, _-_, _*_, _/_, _%_, _^_, _<_}
-use native.Mathlib.Nat.{pos-of-ne-zero, lt-of-lt-of-le}
+use native.Mathlib.Nat.{pos-of-ne-zero}
 use native.Mathlib.Omega.{arith}
 use borrow.Author.Tests.{eq-eqb, ne-eqb}
 use lib.Count.{leadingZeros}

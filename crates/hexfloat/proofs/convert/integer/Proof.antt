@@ -1,5 +1,5 @@
 -- `integer` meets its contract: by the characteristic the fraction moves left, right, or out of sight.
-use mathlib.Core.Path.{_≡_, sym, ap, _∙_}
+use mathlib.Core.Path.{sym, ap, _∙_}
 use Prim.Native.Nat.{ℕ, _/_, _*_, _^_, _<_, _-_}
 use native.Mathlib.Nat.{lt-of-lt-of-le, le-trans, le-of-eq, mul-lt-mul-of-pos-right}
 use native.Mathlib.Omega.{arith}

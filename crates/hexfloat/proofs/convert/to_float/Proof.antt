@@ -1,5 +1,4 @@
 -- `to_float` meets its contract: the parts are in range, so the word is theirs.
-use mathlib.Core.Path.{ap₂, _∙_}
 use borrow.Author.Needs.{needs}
 use Rattle.hexfloat.specs.Convert.{toFloat}
 use Rattle.hexfloat.proofs.Fits.{float-fits}

@@ -1,8 +1,7 @@
 -- `divide_parts` meets its contract: each way out of the code has its law.
-use mathlib.Core.Path.{_≡_, sym, ap, ap₂, _∙_}
+use mathlib.Core.Path.{sym, ap, _∙_}
 use native.Mathlib.Nat.{pos-of-ne-zero}
 use native.Mathlib.Omega.{arith}
-use Prim.Native.Nat.{ℕ, _+_, _-_, _%_}
 use Rattle.hexfloat.specs.Answer.{gives}
 use Rattle.hexfloat.proofs.Divided.{Ready, few, left-place, dividends, small, large, cut}
 use Rattle.hexfloat.proofs.Keys.{zero-is-zero}
