@@ -1,5 +1,5 @@
 -- The theorems of specs/Theorems.antt: the exact value decides, and there is one number that it gives.
-use mathlib.Core.Path.{sym, _∙_}
+use mathlib.Core.Path.{_≡_, sym, _∙_}
 use mathlib.Core.Bool.{Bool}
 use mathlib.Core.Logic.{_⊎_, inl, inr}
 use Prim.Native.Nat.{ℕ, _*_, _+_, _/_, _^_, _<_}
@@ -51,6 +51,9 @@ exact-float w = record {
   zero = λ e. rw (eq-eqb (wordMagnitude w) 0 e);
   characteristic = λ h. rw (ne-eqb (wordMagnitude w) 0 (ne-of-gt h)) (is h);
   fraction = λ h. rw (ne-eqb (wordMagnitude w) 0 (ne-of-gt h)) (fraction-is 6 (pos 4));
+  only = λ h c f r s.
+      let e : characteristicOf (wordMagnitude w) 65536 ≡ c = characteristic-unique (pos 4) r in
+      rw (ne-eqb (wordMagnitude w) 0 (ne-of-gt h)) (λ i. record { sign = w / 2 ^ 31; characteristic = e i; fraction = fraction-unique 6 e s i });
 }
   where
     is : 0 < wordMagnitude w → IsCharacteristic (wordMagnitude w) 65536 (characteristicOf (wordMagnitude w) 65536)

@@ -12,7 +12,7 @@ pub data IsCode : ℕ → Type 0 where
   greater : IsCode 1
   less : IsCode 3
 
--- 8.17 to 8.19: 0 for a zero fraction, else 3 for a negative number and 1 for a positive one
+-- 8.14, 8.17 to 8.19: 0 for a zero fraction, else 3 for a negative number and 1 for a positive one
 unfoldable pub codeOf : Parts → ℕ
 codeOf p = cond (eqb (p .fraction) 0) 0 (cond (eqb (p .sign) 0) 1 3)
 

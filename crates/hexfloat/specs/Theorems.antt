@@ -2,7 +2,7 @@
 use mathlib.Core.Path.{_≡_}
 use mathlib.Core.Bool.{Bool}
 use mathlib.Core.Logic.{_⊎_}
-use Prim.Native.Nat.{ℕ, suc, _+_, _*_, _%_, _^_, _≤_, _<_}
+use Prim.Native.Nat.{ℕ, suc, _+_, _*_, _/_, _%_, _^_, _≤_, _<_}
 use Rattle.hexfloat.specs.declared.word.Coded.{Coded}
 use Rattle.hexfloat.specs.declared.word.Long.{Long}
 use Rattle.hexfloat.specs.declared.word.Parts.{Parts}
@@ -45,6 +45,8 @@ pub record ExactFloat (w : ℕ) : Type 0 where
   pub zero : wordMagnitude w ≡ 0 → floatParts w ≡ trueZero
   pub characteristic : 0 < wordMagnitude w → IsCharacteristic (wordMagnitude w) 65536 (floatParts w .characteristic)
   pub fraction : 0 < wordMagnitude w → IsFraction 6 (wordMagnitude w) 65536 (floatParts w .characteristic) (floatParts w .fraction)
+  pub only : 0 < wordMagnitude w → (c f : ℕ) → IsCharacteristic (wordMagnitude w) 65536 c → IsFraction 6 (wordMagnitude w) 65536 c f
+      → floatParts w ≡ record { sign = w / 2 ^ 31; characteristic = c; fraction = f }
 
 -- 8.7: every condition code that an order sets is 0, 1 or 3.
 pub record CodesSet : Type 0 where
