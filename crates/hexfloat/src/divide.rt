@@ -78,10 +78,11 @@ fn divide_parts(d: u32, mask: bool, a: Parts, b: Parts) -> Quotient
     let y = crate::normal::normalise(d, b);
     let lead = leads(x.fraction, y.fraction);
     let up = x.place + 64 + lead;
-    if up < y.place {
+    let down = y.place;
+    if up < down {
         return on_underflow(mask);
     }
-    let c = up - y.place;
+    let c = up - down;
     if 127 < c {
         return Quotient::Overflow;
     }

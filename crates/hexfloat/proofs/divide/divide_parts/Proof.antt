@@ -58,24 +58,24 @@ on-underflow-requires : tie.Need-on-underflow-requires
 on-underflow-requires c κs = search needs
 
 returns-3 : tie.Need-returns-3
-returns-3 c = c .on-underflow .ensures ∙ sym (small (ready (c .before .before .before .before)) _ (c .before .if3 .taken))
+returns-3 c = c .on-underflow .ensures ∙ sym (small (ready (c .before .before .before)) _ (c .before .if3 .taken))
 
 returns-4 : tie.Need-returns-4
-returns-4 c = sym (large (ready (c .before .before .before .before .before)) (c .before .before .if3 .left) _ (c .if4 .taken))
+returns-4 c = sym (large (ready (c .before .before .before)) (c .before .if3 .left) _ (c .if4 .taken))
 
-add-t12 : tie.Need-add-t12
-add-t12 c = search needs
+add-t13 : tie.Need-add-t13
+add-t13 c = search needs
 
 sub-leading-digits : tie.Need-sub-leading-digits
-sub-leading-digits c = omega (arith, few (ready (c .before .before .before .before .before .before .before)), ready (c .before .before .before .before .before .before .before) .dividend .some)
+sub-leading-digits c = omega (arith, few (ready (c .before .before .before .before .before)), ready (c .before .before .before .before .before) .dividend .some)
 
 leading-digits-requires : tie.Need-leading-digits-requires
-leading-digits-requires c κs = dividends (ready (c .before .before .before .before .before .before .before))
+leading-digits-requires c κs = dividends (ready (c .before .before .before .before .before))
 
 returns-5 : tie.Need-returns-5
 returns-5 c =
     rw (c .leading-digits .ensures)
-    (sym (cut (ready (c .before .before .before .before .before .before .before .before)) (c .before .before .before .before .before .if3 .left) _ (c .before .before .before .if4 .left)))
+    (sym (cut (ready (c .before .before .before .before .before .before)) (c .before .before .before .before .if3 .left) _ (c .before .before .before .if4 .left)))
 
 pub divide-parts-spec : {M : Type 1} → statement M
 divide-parts-spec =
@@ -92,7 +92,7 @@ divide-parts-spec =
     on-underflow-requires
     returns-3
     returns-4
-    add-t12
+    add-t13
     sub-leading-digits
     leading-digits-requires
     returns-5)
