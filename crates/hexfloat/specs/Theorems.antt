@@ -6,13 +6,13 @@ use Prim.Native.Nat.{ℕ, suc, _+_, _*_, _/_, _%_, _^_, _≤_, _<_}
 use Rattle.hexfloat.specs.declared.word.Coded.{Coded}
 use Rattle.hexfloat.specs.declared.word.Long.{Long}
 use Rattle.hexfloat.specs.declared.word.Parts.{Parts}
-use Rattle.hexfloat.specs.Answer.{gives, stops}
+use Rattle.hexfloat.specs.Answer.{Answer, gives, stops}
 use Rattle.hexfloat.specs.Word.{trueZero, magnitude}
 use Rattle.hexfloat.specs.Code.{IsCode, shortCode, longCode, generalCode}
 use Rattle.hexfloat.specs.Compare.{comparedShort, comparedLong}
 use Rattle.hexfloat.specs.Normal.{IsCharacteristic, IsFraction, IsBelowZero}
 use Rattle.hexfloat.specs.Convert.{fixedMagnitude, wordMagnitude, floatParts, toFixed, toFloat}
-use Rattle.hexfloat.specs.Divide.{quotient, underflow}
+use Rattle.hexfloat.specs.Divide.{quotient, underflow, shortQuotient, longQuotient}
 
 -- For whole numbers a and b above 0 there is one characteristic of a / b, 0 or more or below 0, and to it one fraction of d digits.
 pub record OneNumber (d a b : ℕ) : Type 0 where
@@ -57,3 +57,14 @@ pub record CodesSet : Type 0 where
   pub compare-long : (a b : Long) → IsCode (comparedLong a b)
   pub fixed : (w : ℕ) (c : Coded) → toFixed w ≡ gives c → IsCode (c .code)
   pub float : (w : ℕ) → IsCode (toFloat w .code)
+
+-- an answer that gives something, or stops by a number from lo to hi
+pub data Numbered {A : Type 0} (lo hi : ℕ) : Answer A → Type 0 where
+  given : {a : A} → Numbered lo hi (gives a)
+  stopped : {n : ℕ} → lo ≤ n → n ≤ hi → Numbered lo hi (stops n)
+
+-- Arithmetic stops by 8 to 11 alone: the divides by 8, 9 and 10, CVFX by 11.
+pub record StopsNumbered : Type 0 where
+  pub fixed : (w : ℕ) → Numbered 11 11 (toFixed w)
+  pub short : (mask : Bool) (a b : ℕ) → Numbered 8 10 (shortQuotient mask a b)
+  pub long : (mask : Bool) (a b : Long) → Numbered 8 10 (longQuotient mask a b)
