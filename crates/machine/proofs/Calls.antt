@@ -1,0 +1,56 @@
+-- Lists of calls: one after another, and one more step at the end.
+use Prim.Native.Nat.{ℕ, zero, suc}
+use mathlib.Core.Path.{_≡_, refl, ap, _∙_}
+use mathlib.Core.List.{List, [], _∷_, _++_}
+use lib.ListN.{replicate}
+use Rattle.machine.specs.Step.{Outcome}
+use Rattle.machine.specs.Trail.{Call, step, back, Trail, Reply, replyOf, traced, standing, replies, Covered, AllCovered}
+use Rattle.machine.specs.Theorems.{reply}
+
+-- k back steps, k steps, and their answers where all are taken
+abbrev pub backs : ℕ → List Call
+backs k = replicate k back
+
+abbrev pub forwards : ℕ → List Call
+forwards k = replicate k step
+
+abbrev pub backsTaken : ℕ → List Reply
+backsTaken k = replicate k (reply 0 0)
+
+abbrev pub stepsTaken : ℕ → List Reply
+stepsTaken k = replicate k (reply 1 0)
+
+-- a list of calls and then another
+pub standing-append : {W : Type 0} (f : Call → W → Outcome W) (cs ds : List Call) (x : W) → standing f (cs ++ ds) x ≡ standing f ds (standing f cs x)
+unfolding standing
+standing-append f [] ds x = refl
+standing-append f (c ∷ cs) ds x = standing-append f cs ds (f c x .after)
+
+pub replies-append :
+    {W : Type 0} (f : Call → W → Outcome W) (cs ds : List Call) (x : W) → replies f (cs ++ ds) x ≡ replies f cs x ++ replies f ds (standing f cs x)
+unfolding standing replies
+replies-append f [] ds x = refl
+replies-append f (c ∷ cs) ds x = ap (λ (l : List Reply). replyOf (f c x) ∷ l) (replies-append f cs ds (f c x .after))
+
+pub snoc : {A : Type 0} (a : A) (k : ℕ) → replicate (suc k) a ≡ replicate k a ++ (a ∷ [])
+snoc a zero = refl
+snoc a (suc k) = ap (λ (l : List _). a ∷ l) (snoc a k)
+
+-- one step more
+module _ {W : Type 0} (f : Call → W → Outcome W) (k : ℕ) (x : W) where
+  pub step-last : standing f (forwards (suc k)) x ≡ f step (standing f (forwards k) x) .after
+  unfolding standing
+  step-last = ap (λ (cs : List Call). standing f cs x) (snoc step k) ∙ standing-append f (forwards k) (step ∷ []) x
+
+  pub reply-last : replies f (forwards (suc k)) x ≡ replies f (forwards k) x ++ (replyOf (f step (standing f (forwards k) x)) ∷ [])
+  unfolding replies
+  reply-last = ap (λ (cs : List Call). replies f cs x) (snoc step k) ∙ replies-append f (forwards k) (step ∷ []) x
+
+-- the calls of a list, and the call after it, none of them left out
+module _ (d p : List ℕ) (journal : ℕ) (c : Call) where
+  pub covered-append :
+      (cs : List Call) (t : Trail) → AllCovered d p journal (cs ++ (c ∷ [])) t →
+      AllCovered d p journal cs t × Covered d p journal c (standing (traced d p journal) cs t)
+  unfolding AllCovered standing
+  covered-append [] t v = (tt, v .0)
+  covered-append (b ∷ cs) t v = let w = covered-append cs (traced d p journal b t .after) (v .1) in ((v .0, w .0), w .1)

@@ -1,0 +1,187 @@
+-- Condition 3 in its own words: back steps find what stood before, steps find it again, and a back step is refused exactly where no step stands.
+use Prim.Native.Nat.{ℕ, zero, suc, _-_, _<_, _≤_}
+use mathlib.Core.Path.{_≡_, refl, sym, ap, subst, _∙_}
+use mathlib.Core.List.{List, [], _∷_, _++_}
+use mathlib.Core.Bool.{Bool, true, false, cond}
+use lib.Dec.{eqb}
+use lib.ListN.{length, getD}
+use native.Mathlib.Omega.{arith}
+use borrow.Author.Tests.{eqb-false}
+use Rattle.hexfloat.specs.Answer.{gives}
+use Rattle.machine.specs.declared.verdict.Effect.{Effect}
+use Rattle.machine.specs.Decide.{decided}
+use Rattle.machine.specs.Machine.{Machine, committed}
+use Rattle.machine.specs.Step.{Outcome, outcome, stepped}
+use Rattle.machine.specs.Trail.{Call, step, back, Entry, trail, advanced, heldAt, dropped, traced, called, Reply, replyOf, standing, replies, Behind}
+use Rattle.machine.specs.Theorems.{Typed, shown, startOf, machineAfter, trailAfter, stepsAfter, times, reply, Included, BackAndForth, RefusedAtStart}
+use Rattle.machine.proofs.Calls.{backs, forwards, backsTaken, stepsTaken, snoc, step-last, reply-last, covered-append}
+use Rattle.machine.proofs.Links.{Link, Walk}
+use Rattle.machine.proofs.Trail.{Good, Same, trailOf, call-same, good-new, from, steps-covered, stood-entry}
+
+module _ (d p : List ℕ) (journal base : ℕ) where
+  -- one back step where an entry stands before
+  back-one :
+      (x : Machine) (e : Entry) (es : List Entry) → Good d p journal base x (e ∷ es) →
+      Same d p journal base (called d p back x) (traced d p journal back (trailOf x (e ∷ es)))
+  back-one x e es g = call-same d p journal base back x (e ∷ es) g (λ b. never (b .alone))
+    where
+      never : e ∷ es ≡ [] → ⊥
+      never h = let z : _≡_ {A = ℕ} 0 1 = cc in omega arith
+
+  -- k back steps, each taken
+  pub record Went (k : ℕ) (x : Machine) (es : List Entry) : Type 0 where
+    pub finds : (other : Entry) → shown (standing (called d p) (backs k) x) ≡ getD (shown x ∷ es) k other
+    pub answers : replies (called d p) (backs k) x ≡ backsTaken k
+
+  went : (k : ℕ) (x : Machine) (es : List Entry) → Good d p journal base x es → k ≤ length es → Went k x es
+  unfolding standing replies traced
+  went zero x es g h = record { finds = λ other. refl; answers = refl }
+  went (suc k) x [] g h = absurd (omega arith)
+  went (suc k) x (e ∷ es) g h =
+      let s = back-one x e es g in
+      let r = called d p back x in
+      let w = went k (r .after) es (s .good) (omega arith) in
+      record {
+        finds = λ other. w .finds other ∙ ap (λ (z : Entry). getD (z ∷ es) k other) (sym (s .last));
+        answers = rw (s .taken, s .stop, w .answers);
+      }
+
+  -- a step from where the entry after it is known
+  step-again :
+      (w : Machine) (es : List Entry) → Good d p journal base w es → (new : Effect) → decided d p (w .state) (w .memory) journal ≡ gives new →
+      called d p step w ≡ outcome (committed new w) 1 0
+  unfolding called stepped
+  step-again w es g new t = rw (g .size, t)
+
+  -- k back steps, and k steps from there, each taken
+  pub record Round (k : ℕ) (x : Machine) (es : List Entry) : Type 0 where
+    pub finds : shown (standing (called d p) (forwards k) (standing (called d p) (backs k) x)) ≡ shown x
+    pub good : Good d p journal base (standing (called d p) (forwards k) (standing (called d p) (backs k) x)) es
+    pub answers : replies (called d p) (forwards k) (standing (called d p) (backs k) x) ≡ stepsTaken k
+
+  -- one more of each, around the others
+  module _ (k : ℕ) (x : Machine) (e : Entry) (es : List Entry) (g : Good d p journal base x (e ∷ es)) where
+    -- after the first back step, after all of them, and after k steps from there
+    r : Machine
+    r = called d p back x .after
+
+    z : Machine
+    z = standing (called d p) (backs k) r
+
+    w : Machine
+    w = standing (called d p) (forwards k) z
+
+    link : Link d p journal (x .journal) (shown x) e
+    unfolding Walk
+    link = g .walk .0
+
+    abbrev new : Effect
+    new = link .new
+
+    back-at : shown r ≡ e
+    unfolding traced r
+    back-at = sym (back-one x e es g .last)
+
+    back-good : Good d p journal base r es
+    unfolding traced r
+    back-good = back-one x e es g .good
+
+    module _ (i : Round k r es) where
+      at : shown w ≡ e
+      unfolding w z
+      at = i .finds ∙ back-at
+
+      good : Good d p journal base w es
+      unfolding w z
+      good = i .good
+
+      decides : decided d p (w .state) (w .memory) journal ≡ gives new
+      decides = subst (λ (y : Entry). decided d p (y .state) (y .memory) journal ≡ gives new) (sym at) (link .taken)
+
+      again : called d p step w ≡ outcome (committed new w) 1 0
+      again = step-again w es good new decides
+
+      stands : standing (called d p) (forwards (suc k)) (standing (called d p) (backs (suc k)) x) ≡ committed new w
+      unfolding standing r z w
+      stands = step-last (called d p) k z ∙ ap (λ (o : Outcome Machine). o .after) again
+
+      answered : replies (called d p) (forwards (suc k)) (standing (called d p) (backs (suc k)) x) ≡ stepsTaken (suc k)
+      unfolding standing r z w
+      answered =
+          reply-last (called d p) k z
+          ∙ ap (λ (l : List Reply). l ++ (replyOf (called d p step w) ∷ [])) (i .answers)
+          ∙ ap (λ (o : Outcome Machine). stepsTaken k ++ (replyOf o ∷ [])) again
+          ∙ sym (snoc (reply 1 0) k)
+
+      round-on : Round (suc k) x (e ∷ es)
+      round-on = record {
+        finds = ap shown stands ∙ ap (advanced new) at ∙ link .advances;
+        good = subst (λ (y : Machine). Good d p journal base y (e ∷ es)) (sym stands)
+            (subst (λ (y : Entry). Good d p journal base (committed new w) (y ∷ es)) at (good-new d p journal base w es new good decides));
+        answers = answered;
+      }
+
+  round : (k : ℕ) (x : Machine) (es : List Entry) → Good d p journal base x es → k ≤ length es → Round k x es
+  unfolding standing replies r
+  round zero x es g h = record { finds = refl; good = g; answers = refl }
+  round (suc k) x [] g h = absurd (omega arith)
+  round (suc k) x (e ∷ es) g h = round-on k x e es g (round k (called d p back x .after) es (back-good k x e es g) (omega arith))
+
+-- the answer of the trail's back step is a stop only with the start alone
+some-number : (k : ℕ) → cond (eqb k 0) 14 k ≡ 0 → ⊥
+some-number k h = cases (eqb k 0) refl h
+  where
+    cases : (b : Bool) → eqb k 0 ≡ b → cond b 14 k ≡ 0 → ⊥
+    cases true e z = omega arith
+    cases false e z = eqb-false k 0 e z
+
+alone-stops : (journal : ℕ) (p : List ℕ) (x : Entry) (es : List Entry) → length es ≡ 0 → dropped p journal x es .stop ≡ 0 → ⊥
+alone-stops journal p x [] h = some-number (heldAt p journal x)
+alone-stops journal p x (e ∷ es) h = absurd (omega arith)
+
+before-takes : (journal : ℕ) (p : List ℕ) (x : Entry) (es : List Entry) → 0 < length es → dropped p journal x es .stop ≡ 0
+before-takes journal p x [] h = absurd (omega arith)
+before-takes journal p x (e ∷ es) h = refl
+
+-- after a list of calls that condition 3 covers
+module _ (d p : List ℕ) (x : Machine) (cs : List Call) (typed : Typed (x .memory)) where
+  -- what the first i steps from the start lead to
+  stood :
+      Included d p x cs → (i : ℕ) → i ≤ stepsAfter d p cs x →
+      shown (times d p i step x) ≡ getD (trailAfter d p cs x .last ∷ trailAfter d p cs x .earlier) (stepsAfter d p cs x - i) (shown x)
+  stood v i h =
+      from d p (forwards i) x typed (steps-covered d p (length (x .journal)) i (startOf x)) .last ∙ stood-entry d p cs x typed v i h (shown x)
+
+  pub back-and-forth : (k : ℕ) → Included d p x cs → k ≤ stepsAfter d p cs x → BackAndForth d p x cs k
+  back-and-forth k v h =
+      let t = trailAfter d p cs x in
+      let n = stepsAfter d p cs x in
+      let y = machineAfter d p cs x in
+      let f = from d p cs x typed v in
+      let place : k ≡ n - (n - k) = omega arith in
+      let w = went d p (length (x .journal)) (x .state .used) k y (t .earlier) (f .good) h in
+      let r = round d p (length (x .journal)) (x .state .used) k y (t .earlier) (f .good) h in
+      record {
+        backs = w .answers;
+        found =
+            w .finds (shown x)
+            ∙ ap (λ (z : Entry). getD (z ∷ t .earlier) k (shown x)) (f .last)
+            ∙ ap (λ (i : ℕ). getD (t .last ∷ t .earlier) i (shown x)) place
+            ∙ sym (stood v (n - k) (omega arith));
+        steps = r .answers;
+        again = r .finds;
+      }
+
+  pub refused-at-start : Included d p x (cs ++ (back ∷ [])) → RefusedAtStart d p x cs
+  unfolding traced
+  refused-at-start v =
+      let t = trailAfter d p cs x in
+      let y = machineAfter d p cs x in
+      let w = covered-append d p (length (x .journal)) back cs (startOf x) v in
+      let f = from d p cs x typed (w .0) in
+      let c = subst (λ (z : Entry). Behind p (length (x .journal)) (trail z (t .earlier)) → ⊥) (sym (f .last)) (w .1) in
+      let s = call-same d p (length (x .journal)) (x .state .used) back y (t .earlier) (f .good) c .stop in
+      record {
+        refused = λ n e. alone-stops (length (x .journal)) p (shown y) (t .earlier) n (sym s ∙ e);
+        taken = λ n. s ∙ before-takes (length (x .journal)) p (shown y) (t .earlier) n;
+      }

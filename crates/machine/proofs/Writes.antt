@@ -1,0 +1,27 @@
+-- The journal: a taken step writes one record, at its used count, and no other word; a back step after it puts everything back.
+use Prim.Native.Nat.{ℕ}
+use mathlib.Core.Path.{_≡_, refl}
+use mathlib.Core.List.{List}
+use lib.ListN.{length}
+use native.Mathlib.Omega.{arith}
+use Rattle.hexfloat.specs.Answer.{gives}
+use Rattle.machine.specs.declared.verdict.Effect.{Effect}
+use Rattle.machine.specs.Journal.{encoded}
+use Rattle.machine.specs.Machine.{Machine, beforeOf}
+use Rattle.machine.specs.Step.{verdictOf}
+use Rattle.machine.specs.Theorems.{Typed, shown, OneRecord}
+use Rattle.machine.proofs.Links.{Kept, back-new, saved-new}
+use Rattle.machine.proofs.Records.{written-length, written-other}
+
+pub one-record : (d p : List ℕ) (x : Machine) (e : Effect) → Typed (x .memory) → verdictOf d p x ≡ gives e → OneRecord p x e
+one-record d p x e typed t =
+    let kept : Kept (shown x) = record { halfwords = typed .halfword } in
+    let words = encoded (beforeOf (x .state .registers) (x .memory) e) in
+    record {
+      used = refl;
+      words = written-length (x .journal) (x .state .used) words;
+      saved = saved-new d p (length (x .journal)) x refl kept e t;
+      below = λ i h. written-other (x .journal) (x .state .used) words i (λ z. omega arith);
+      above = λ i h. written-other (x .journal) (x .state .used) words i (λ z. omega arith);
+      back = back-new d p (length (x .journal)) x refl kept e t;
+    }

@@ -1,0 +1,94 @@
+-- `machine::change::old` meets its contract: each arm computes its case of `oldOf`; what is placed is there to be read.
+-- Assumes nothing.
+use borrow.Author.Needs.{needs}
+use Rattle.machine.specs.Change.{oldOf}
+use Rattle.machine.proofs.Placed.{placed-float, placed-pair, placed-general, placed-two, placed-four}
+use Rattle.machine.proofs.change.old.Statement.{statement}
+use Rattle.machine.proofs.change.old.Tie as tie
+
+enum-told : tie.Need-enum-told
+enum-told c = search needs
+
+enum-known-ch : tie.Need-enum-known-ch
+enum-known-ch c = search needs
+
+float-at-requires : tie.Need-float-at-requires
+float-at-requires c κs = placed-float _ (c .before .ch .given .1) (c .before .before .before .before .pre)
+
+enum-known-ch-2 : tie.Need-enum-known-ch-2
+enum-known-ch-2 c = search needs
+
+float-pair-requires : tie.Need-float-pair-requires
+float-pair-requires c κs = placed-pair _ (c .before .ch2 .given .1) (c .before .before .before .before .pre)
+
+enum-known-ch-3 : tie.Need-enum-known-ch-3
+enum-known-ch-3 c = search needs
+
+general-at-requires : tie.Need-general-at-requires
+general-at-requires c κs = placed-general _ (c .before .ch3 .given .1) (c .before .before .before .before .pre)
+
+enum-known-ch-4 : tie.Need-enum-known-ch-4
+enum-known-ch-4 c = search needs
+
+cast-word-at : tie.Need-cast-word-at
+cast-word-at c = search needs
+
+word-at-requires : tie.Need-word-at-requires
+word-at-requires c κs = placed-two (c .before .ch4 .given .1) (c .before .before .before .before .pre)
+
+enum-known-ch-5 : tie.Need-enum-known-ch-5
+enum-known-ch-5 c = search needs
+
+cast-long-at : tie.Need-cast-long-at
+cast-long-at c = search needs
+
+long-at-requires : tie.Need-long-at-requires
+long-at-requires c κs = placed-four (c .before .ch5 .given .1) (c .before .before .before .before .pre)
+
+returns : tie.Need-returns
+unfolding oldOf
+returns c = rw (c .enum-told .given .1)
+
+returns-2 : tie.Need-returns-2
+unfolding oldOf
+returns-2 c = rw (c .before .before .ch .given .1, c .float-at .ensures)
+
+returns-3 : tie.Need-returns-3
+unfolding oldOf
+returns-3 c = rw (c .before .before .ch2 .given .1, c .float-pair .ensures)
+
+returns-4 : tie.Need-returns-4
+unfolding oldOf
+returns-4 c = rw (c .before .before .ch3 .given .1, c .general-at .ensures)
+
+returns-5 : tie.Need-returns-5
+unfolding oldOf
+returns-5 c = rw (c .before .before .ch4 .given .1, c .word-at .ensures)
+
+returns-6 : tie.Need-returns-6
+unfolding oldOf
+returns-6 c = rw (c .before .before .ch5 .given .1, c .long-at .ensures)
+
+pub old-spec : {M : Type 1} → statement M
+old-spec =
+    tie.close
+    (tie.spec
+    enum-told
+    enum-known-ch
+    float-at-requires
+    enum-known-ch-2
+    float-pair-requires
+    enum-known-ch-3
+    general-at-requires
+    enum-known-ch-4
+    cast-word-at
+    word-at-requires
+    enum-known-ch-5
+    cast-long-at
+    long-at-requires
+    returns
+    returns-2
+    returns-3
+    returns-4
+    returns-5
+    returns-6)

@@ -1,0 +1,23 @@
+-- `machine::jump::count_down` meets its contract: by the callees.
+-- Assumes nothing.
+use borrow.Author.Needs.{needs}
+use Rattle.machine.specs.Jump.{countedDown}
+use Rattle.machine.proofs.jump.count_down.Statement.{statement}
+use Rattle.machine.proofs.jump.count_down.Tie as tie
+
+general-at-requires : tie.Need-general-at-requires
+general-at-requires c κs = search needs
+
+one-less-requires : tie.Need-one-less-requires
+one-less-requires c κs = search needs
+
+target-requires : tie.Need-target-requires
+target-requires c κs = search needs
+
+returns : tie.Need-returns
+unfolding countedDown
+returns c = rw (c .target .ensures, c .before .one-less .ensures, c .before .before .general-at .ensures)
+
+pub count-down-spec : {M : Type 1} → statement M
+count-down-spec =
+    tie.close (tie.spec general-at-requires one-less-requires target-requires returns)

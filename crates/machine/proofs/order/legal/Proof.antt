@@ -1,0 +1,82 @@
+-- `machine::order::legal` meets its contract: the limits, one by one.
+-- Assumes nothing.
+use borrow.Author.Needs.{needs}
+use borrow.Author.Tests.{le-leb, lt-leb}
+use Rattle.machine.specs.Order.{legalOf, withinForm}
+use Rattle.machine.proofs.order.legal.Statement.{statement}
+use Rattle.machine.proofs.order.legal.Tie as tie
+
+look-up-requires : tie.Need-look-up-requires
+look-up-requires c κs = search needs
+
+enum-told : tie.Need-enum-told
+enum-told c = search needs
+
+enum-known-n : tie.Need-enum-known-n
+enum-known-n c = search needs
+
+form-of-requires : tie.Need-form-of-requires
+form-of-requires c κs = search needs
+
+returns : tie.Need-returns
+unfolding legalOf withinForm
+returns c =
+    rw (
+      ← c .before .before .before .before .before .before .before .look-up .ensures,
+      c .before .before .before .before .before .n .given .1,
+      ← c .before .before .before .form-of .ensures,
+      lt-leb _ _ (c .if1 .taken),
+    )
+
+returns-2 : tie.Need-returns-2
+unfolding legalOf withinForm
+returns-2 c =
+    rw (
+      ← c .before .before .before .before .before .before .before .before .before .before .look-up .ensures,
+      c .before .before .before .before .before .before .before .before .n .given .1,
+      ← c .before .before .before .before .before .before .form-of .ensures,
+      le-leb _ _ (c .before .before .before .if1 .left),
+      lt-leb _ _ (c .if2 .taken),
+    )
+
+returns-3 : tie.Need-returns-3
+unfolding legalOf withinForm
+returns-3 c =
+    rw (
+      ← c .before .before .before .before .before .before .before .before .before .before .before .before .before .look-up .ensures,
+      c .before .before .before .before .before .before .before .before .before .before .before .n .given .1,
+      ← c .before .before .before .before .before .before .before .before .before .form-of .ensures,
+      le-leb _ _ (c .before .before .before .before .before .before .if1 .left),
+      le-leb _ _ (c .before .before .before .if2 .left),
+      lt-leb _ _ (c .if3 .taken),
+    )
+
+returns-4 : tie.Need-returns-4
+unfolding legalOf withinForm
+returns-4 c = rw (← c .before .before .look-up .ensures, c .enum-told .given .1)
+
+returns-5 : tie.Need-returns-5
+unfolding legalOf withinForm
+returns-5 c =
+    rw (
+      ← c .before .before .before .before .before .before .before .before .before .before .before .before .before .look-up .ensures,
+      c .before .before .before .before .before .before .before .before .before .before .before .n .given .1,
+      ← c .before .before .before .before .before .before .before .before .before .form-of .ensures,
+      le-leb _ _ (c .before .before .before .before .before .before .if1 .left),
+      le-leb _ _ (c .before .before .before .if2 .left),
+      le-leb _ _ (c .if3 .left),
+    )
+
+pub legal-spec : {M : Type 1} → statement M
+legal-spec =
+    tie.close
+    (tie.spec
+    look-up-requires
+    enum-told
+    enum-known-n
+    form-of-requires
+    returns
+    returns-2
+    returns-3
+    returns-4
+    returns-5)

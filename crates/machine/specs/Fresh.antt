@@ -1,0 +1,11 @@
+-- The state (document 01, 'The machine on the desk').
+use lib.ListN.{replicate}
+use Rattle.machine.specs.declared.state.Registers.{Registers}
+use Rattle.machine.specs.declared.state.State.{State}
+
+abbrev pub freshRegisters : Registers
+freshRegisters = record { float = replicate 8 0; general = replicate 8 0; code = 0; mask = 0; pointer = 0 }
+
+-- a fresh state is all zero
+abbrev pub freshState : State
+freshState = record { registers = freshRegisters; used = 0 }

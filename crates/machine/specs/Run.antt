@@ -1,0 +1,26 @@
+-- A run (document 01, 'Journal and back steps', second paragraph).
+use Prim.Native.Nat.{ℕ, zero, suc}
+use mathlib.Core.List.{List}
+use mathlib.Core.Bool.{cond}
+use lib.ListN.{length}
+use lib.Dec.{eqb}
+use Rattle.hexfloat.specs.Answer.{Answer}
+use Rattle.machine.specs.declared.verdict.Effect.{Effect}
+use Rattle.machine.specs.Decide.{entryStop}
+use Rattle.machine.specs.Machine.{Machine, committed}
+use Rattle.machine.specs.Step.{Outcome, outcome, onward, verdictOf}
+
+-- steps until the limit, which is looked at first, or a stop
+unfoldable pub repeated : {W : Type 0} → (W → Answer Effect) → (W → Effect → W) → ℕ → W → Outcome W
+repeated verdict take zero x = outcome x 0 0
+repeated verdict take (suc n) x = onward (verdict x) x (take x) (repeated verdict take n)
+
+-- checks 1 to 3 come first, at a limit of 0 too
+abbrev pub admitted : {W : Type 0} → ℕ → W → Outcome W → Outcome W
+admitted k x rest = cond (eqb k 0) rest (outcome x 0 k)
+
+abbrev pub entryOf : List ℕ → List ℕ → Machine → ℕ
+entryOf d p x = entryStop (length d) (length p) (x .state) (length (x .memory)) (length (x .journal))
+
+unfoldable pub ran : List ℕ → List ℕ → ℕ → Machine → Outcome Machine
+ran d p limit x = admitted (entryOf d p x) x (repeated (verdictOf d p) (λ y e. committed e y) limit x)

@@ -1,0 +1,116 @@
+-- What is proved of the calls, in the words of conditions 1 and 3 (document 01, 'Journal and back steps'), for every deck d, protect list p,
+-- machine x and list of calls. The proofs are in proofs/Theorems.antt.
+use Prim.Native.Nat.{ℕ, _+_, _-_, _*_, _<_, _≤_}
+use mathlib.Core.Path.{_≡_}
+use mathlib.Core.List.{List, [], _∷_, _++_}
+use mathlib.Core.Bool.{true}
+use lib.ListN.{length, getD, replicate}
+use Rattle.hexfloat.specs.Answer.{gives}
+use Rattle.machine.specs.declared.verdict.Effect.{Effect}
+use Rattle.machine.specs.Back.{backed}
+use Rattle.machine.specs.Journal.{recordAt, encoded}
+use Rattle.machine.specs.Machine.{Machine, machine, beforeOf, committed}
+use Rattle.machine.specs.Protect.{isProtected}
+use Rattle.machine.specs.Run.{ran}
+use Rattle.machine.specs.Step.{Outcome, outcome, verdictOf, stepped}
+use Rattle.machine.specs.Trail.{Call, step, back, Entry, entry, Trail, trail, Reply, traced, called, standing, replies, Behind, AllCovered}
+
+-- what memory's type says: a halfword has 16 bits
+pub record Typed (memory : List ℕ) : Type 0 where
+  pub halfword : (i : ℕ) → getD memory i 0 < 65536
+
+-- the machine's state with its memory
+abbrev pub shown : Machine → Entry
+shown x = entry (x .state) (x .memory)
+
+-- the trail with the start alone
+abbrev pub startOf : Machine → Trail
+startOf x = trail (shown x) []
+
+-- what stands after the calls: the machine, and the trail, which is fed the journal's length and no word of it
+abbrev pub machineAfter : List ℕ → List ℕ → List Call → Machine → Machine
+machineAfter d p cs x = standing (called d p) cs x
+
+abbrev pub trailAfter : List ℕ → List ℕ → List Call → Machine → Trail
+trailAfter d p cs x = standing (traced d p (length (x .journal))) cs (startOf x)
+
+-- n: the entries less one
+abbrev pub stepsAfter : List ℕ → List ℕ → List Call → Machine → ℕ
+stepsAfter d p cs x = length (trailAfter d p cs x .earlier)
+
+-- what stands after k times the same call
+abbrev pub times : List ℕ → List ℕ → ℕ → Call → Machine → Machine
+times d p k c x = machineAfter d p (replicate k c) x
+
+abbrev pub reply : ℕ → ℕ → Reply
+reply taken stop = record { taken = taken; stop = stop }
+
+-- no call of the list is the one that is left out
+abbrev pub Included : List ℕ → List ℕ → Machine → List Call → Type 0
+Included d p x cs = AllCovered d p (length (x .journal)) cs (startOf x)
+
+-- Condition 3, a single claim about the list: each answer is the trail's; state and memory are the last entry; the entries are those of n steps
+-- from the start, each of them taken; the used count has gone up by n.
+pub record AsTrail (d p : List ℕ) (x : Machine) (cs : List Call) : Type 0 where
+  pub answers : replies (called d p) cs x ≡ replies (traced d p (length (x .journal))) cs (startOf x)
+  pub last : shown (machineAfter d p cs x) ≡ trailAfter d p cs x .last
+  pub steps : trailAfter d p cs x ≡ trailAfter d p (replicate (stepsAfter d p cs x) step) x
+  pub taken : replies (called d p) (replicate (stepsAfter d p cs x) step) x ≡ replicate (stepsAfter d p cs x) (reply 1 0)
+  pub used : machineAfter d p cs x .state .used ≡ x .state .used + stepsAfter d p cs x
+
+-- k back steps find the state and memory after the first n - k steps, and k steps forward again find what stood after all n; none is refused.
+pub record BackAndForth (d p : List ℕ) (x : Machine) (cs : List Call) (k : ℕ) : Type 0 where
+  pub backs : replies (called d p) (replicate k back) (machineAfter d p cs x) ≡ replicate k (reply 0 0)
+  pub found : shown (times d p k back (machineAfter d p cs x)) ≡ shown (times d p (stepsAfter d p cs x - k) step x)
+  pub steps : replies (called d p) (replicate k step) (times d p k back (machineAfter d p cs x)) ≡ replicate k (reply 1 0)
+  pub again : shown (times d p k step (times d p k back (machineAfter d p cs x))) ≡ shown (machineAfter d p cs x)
+
+-- A back step is refused exactly when n is 0 before it.
+pub record RefusedAtStart (d p : List ℕ) (x : Machine) (cs : List Call) : Type 0 where
+  pub refused : stepsAfter d p cs x ≡ 0 → called d p back (machineAfter d p cs x) .stop ≡ 0 → ⊥
+  pub taken : 0 < stepsAfter d p cs x → called d p back (machineAfter d p cs x) .stop ≡ 0
+
+-- A run keeps exactly the steps that it reports, each of them taken and no more than its limit; where it stops, it stops as the next step would.
+pub record KeepsSteps (d p : List ℕ) (x : Machine) (limit : ℕ) (r : Outcome Machine) : Type 0 where
+  pub kept : r .after ≡ times d p (r .taken) step x
+  pub taken : replies (called d p) (replicate (r .taken) step) x ≡ replicate (r .taken) (reply 1 0)
+  pub within : r .taken ≤ limit
+  pub stopped : (r .stop ≡ 0 → ⊥) → stepped d p (r .after) ≡ outcome (r .after) 0 (r .stop)
+
+-- Condition 1: a refused call leaves state, memory and journal as they were; a run, as the steps that it reports left them.
+pub record LeavesAll (d p : List ℕ) (x : Machine) : Type 0 where
+  pub step : (stepped d p x .stop ≡ 0 → ⊥) → stepped d p x .after ≡ x
+  pub back : (backed p x .stop ≡ 0 → ⊥) → backed p x .after ≡ x
+  pub run : (limit : ℕ) → KeepsSteps d p x limit (ran d p limit x)
+
+-- 0 is the answer of a call that was taken and of no other: a step then counts as one and the used count goes up by one, or down by one at a
+-- back step.
+pub record ZeroIsTaken (d p : List ℕ) (x : Machine) : Type 0 where
+  pub counts : stepped d p x .stop ≡ 0 → stepped d p x .taken ≡ 1
+  pub step : stepped d p x .stop ≡ 0 → stepped d p x .after .state .used ≡ x .state .used + 1
+  pub back : backed p x .stop ≡ 0 → backed p x .after .state .used + 1 ≡ x .state .used
+
+-- A taken step writes one record, at the used count, which goes up by one, and no other journal word; a back step after it puts everything back
+-- and lowers the used count, and journal words stay.
+pub record OneRecord (p : List ℕ) (x : Machine) (e : Effect) : Type 0 where
+  pub used : committed e x .state .used ≡ x .state .used + 1
+  pub words : length (committed e x .journal) ≡ length (x .journal)
+  pub saved : recordAt (committed e x .journal) (x .state .used) ≡ encoded (beforeOf (x .state .registers) (x .memory) e)
+  pub below : (i : ℕ) → i < x .state .used * 4 → getD (committed e x .journal) i 0 ≡ getD (x .journal) i 0
+  pub above : (i : ℕ) → x .state .used * 4 + 4 ≤ i → getD (committed e x .journal) i 0 ≡ getD (x .journal) i 0
+  pub back : backed p (committed e x) ≡ outcome (machine (x .state) (x .memory) (committed e x .journal)) 0 0
+
+pub record Theorems : Type 0 where
+  pub as-trail : (d p : List ℕ) (x : Machine) (cs : List Call) → Typed (x .memory) → Included d p x cs → AsTrail d p x cs
+  -- the start alone decides: unless a back step there is the call that is left out, every list is included
+  pub included : (d p : List ℕ) (x : Machine) (cs : List Call) → Typed (x .memory) → (Behind p (length (x .journal)) (startOf x) → ⊥) → Included d p x cs
+  pub back-and-forth :
+      (d p : List ℕ) (x : Machine) (cs : List Call) (k : ℕ) → Typed (x .memory) → Included d p x cs → k ≤ stepsAfter d p cs x → BackAndForth d p x cs k
+  pub refused-at-start :
+      (d p : List ℕ) (x : Machine) (cs : List Call) → Typed (x .memory) → Included d p x (cs ++ back ∷ []) → RefusedAtStart d p x cs
+  -- every halfword whose protect byte is not 0 is as at the start throughout
+  pub protected :
+      (d p : List ℕ) (x : Machine) (cs : List Call) (a : ℕ) → isProtected p a ≡ true → getD (machineAfter d p cs x .memory) a 0 ≡ getD (x .memory) a 0
+  pub leaves-all : (d p : List ℕ) (x : Machine) → LeavesAll d p x
+  pub zero-is-taken : (d p : List ℕ) (x : Machine) → ZeroIsTaken d p x
+  pub one-record : (d p : List ℕ) (x : Machine) (e : Effect) → Typed (x .memory) → verdictOf d p x ≡ gives e → OneRecord p x e

@@ -1,0 +1,106 @@
+use crate::state::State;
+ghost use mathlib.Core.Path.{_≡_};
+ghost use mathlib.Core.Bool.{true};
+ghost use Prim.Native.Nat.{_+_, _≤_, _<_};
+ghost use lib.ListN.{length};
+ghost use Rattle.machine.specs.Check.{
+  deckSized,
+  buffersSized,
+  codeFormed,
+  stateFormed,
+  present,
+};
+ghost use Rattle.machine.specs.Protect.{coverOf, isProtected, anyProtected};
+
+// Check 1.
+pub fn deck_sized(deck: usize) -> bool
+    ensures { λ r. ⌜ r ≡ deckSized deck ⌝ }
+{
+    if deck % 4 != 0 {
+        return false;
+    }
+    deck <= 16384
+}
+
+// The length of the protect list for a memory of so many halfwords.
+fn cover(memory: usize) -> usize
+    ensures { λ r. ⌜ r ≡ coverOf memory ⌝ }
+{
+    memory
+}
+
+// Check 2.
+pub fn buffers_sized(protect: usize, memory: usize, journal: usize) -> bool
+    ensures { λ r. ⌜ r ≡ buffersSized protect memory journal ⌝ }
+{
+    if 32768 < memory {
+        return false;
+    }
+    if 16384 < journal {
+        return false;
+    }
+    protect == cover(memory)
+}
+
+pub fn code_formed(code: u8) -> bool
+    ensures { λ r. ⌜ r ≡ codeFormed code ⌝ }
+{
+    if code == 0 {
+        return true;
+    }
+    if code == 1 {
+        return true;
+    }
+    code == 3
+}
+
+// Check 3.
+pub fn state_formed(s: State, journal: usize) -> bool
+    ensures { λ r. ⌜ r ≡ stateFormed s journal ⌝ }
+{
+    let g = s.registers;
+    if !code_formed(g.code) {
+        return false;
+    }
+    if 1 < g.mask {
+        return false;
+    }
+    s.used as usize <= journal / 4
+}
+
+// Check 6 for `span` halfwords from `at`.
+pub fn is_present(span: u32, at: u32, memory: usize) -> bool
+    requires { ⌜ span ≤ 4 ⌝ }
+    ensures { λ r. ⌜ r ≡ present span at memory ⌝ }
+{
+    if span == 0 {
+        return true;
+    }
+    let end = at as usize + span as usize;
+    end <= memory
+}
+
+// The one place that reads the protect list.
+fn is_protected(protect: &[u8], a: usize) -> bool
+    requires { ⌜ a < length (now protect) ⌝ }
+    ensures { λ r. ⌜ r ≡ isProtected (now (protect .entry)) a ⌝ }
+{
+    protect[a] != 0
+}
+
+// Check 7 for `n` halfwords from `at`.
+pub fn any_protected(protect: &[u8], at: u32, n: u32) -> bool
+    requires { ⌜ present n at (length (now protect)) ≡ true ⌝ }
+    ensures { λ r. ⌜ r ≡ anyProtected (now (protect .entry)) at n ⌝ }
+{
+    let mut a = at as usize;
+    let mut left = n;
+    while 0 < left {
+        if is_protected(protect, a) {
+            return true;
+        }
+        a += 1;
+        left -= 1;
+    }
+    false
+}

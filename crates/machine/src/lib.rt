@@ -1,0 +1,36 @@
+// The machine on the desk: registers, orders, checks, journal; step, run and back step.
+//
+// A step decides first and commits afterwards, so a stop leaves everything as it was. Every public
+// function takes the state by value and hands it back, has no `requires`, and has one equation with
+// a definition of specs/ as its whole contract.
+mod address;
+mod change;
+mod check;
+mod decide;
+mod divide;
+mod effect;
+mod journal;
+mod jump;
+mod operand;
+mod order;
+mod running;
+mod state;
+mod stepping;
+mod stop;
+mod undoing;
+mod verdict;
+
+pub use order::Named;
+pub use order::Operation;
+pub use order::Order;
+pub use order::legal;
+pub use running::Ran;
+pub use running::run;
+pub use state::Registers;
+pub use state::State;
+pub use state::fresh;
+pub use stepping::Stepped;
+pub use stepping::step;
+pub use stop::Stop;
+pub use stop::number;
+pub use undoing::back;
