@@ -30,7 +30,10 @@ returns-2 : tie.Need-returns-2
 unfolding decided
 returns-2 c =
     let checks = c .before .before .before .before .before .entry in
-    let passes = eq-eqb (numberOf (checks .result)) 0 (sym (c .before .before .before .before .number .ensures) ∙ c .before .before .before .if1 .left) in
+    let zero =
+    sym (c .before .before .before .before .number .ensures)
+    ∙ c .before .before .before .if1 .left in
+    let passes = eq-eqb (numberOf (checks .result)) 0 zero in
     rw (← checks .ensures, passes, le-ltb _ _ (c .if2 .taken))
 
 order-at-requires : tie.Need-order-at-requires
@@ -62,7 +65,10 @@ returns-3 : tie.Need-returns-3
 unfolding decided
 returns-3 c =
     let checks = c .before .before .before .before .before .before .before .before .before .entry in
-    let passes = eq-eqb (numberOf (checks .result)) 0 (sym (c .before .before .before .before .before .before .before .before .number .ensures) ∙ c .before .before .before .before .before .before .before .if1 .left) in
+    let zero =
+    sym (c .before .before .before .before .before .before .before .before .number .ensures)
+    ∙ c .before .before .before .before .before .before .before .if1 .left in
+    let passes = eq-eqb (numberOf (checks .result)) 0 zero in
     let inside = lt-ltb _ _ (c .before .before .before .before .if2 .left) in
     rw (
       ← checks .ensures,
@@ -77,7 +83,10 @@ returns-4 : tie.Need-returns-4
 unfolding decided
 returns-4 c =
     let checks = c .before .before .before .before .before .before .before .before .before .before .before .entry in
-    let passes = eq-eqb (numberOf (checks .result)) 0 (sym (c .before .before .before .before .before .before .before .before .before .before .number .ensures) ∙ c .before .before .before .before .before .before .before .before .before .if1 .left) in
+    let zero =
+    sym (c .before .before .before .before .before .before .before .before .before .before .number .ensures)
+    ∙ c .before .before .before .before .before .before .before .before .before .if1 .left in
+    let passes = eq-eqb (numberOf (checks .result)) 0 zero in
     let inside = lt-ltb _ _ (c .before .before .before .before .before .before .if2 .left) in
     rw (
       ← checks .ensures,

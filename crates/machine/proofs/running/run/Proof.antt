@@ -51,7 +51,10 @@ returns-2 : tie.Need-returns-2 Inv-loop μ-loop
 unfolding ran
 returns-2 c =
     let checks = c .before .before .before .before .before .before .before .before .before .before .before .before .before .before .entry in
-    let passes = eq-eqb (numberOf (checks .result)) 0 (sym (c .before .before .before .before .before .before .before .before .before .before .before .before .before .number .ensures) ∙ c .before .before .before .before .before .before .before .before .before .before .before .before .if1 .left) in
+    let zero =
+    sym (c .before .before .before .before .before .before .before .before .before .before .before .before .before .number .ensures)
+    ∙ c .before .before .before .before .before .before .before .before .before .before .before .before .if1 .left in
+    let passes = eq-eqb (numberOf (checks .result)) 0 zero in
     let inv = c .before .before .before .before .before .before .before .before .before .before .before .loop .inv in
     let more = c .before .before .before .before .before .before .before .before .before .before .loop-test .taken in
     let number = c .before .number2 .ensures in
@@ -83,7 +86,10 @@ returns-3 : tie.Need-returns-3 Inv-loop μ-loop
 unfolding ran
 returns-3 c =
     let checks = c .before .before .before .before .entry in
-    let passes = eq-eqb (numberOf (checks .result)) 0 (sym (c .before .before .before .number .ensures) ∙ c .before .before .if1 .left) in
+    let zero =
+    sym (c .before .before .before .number .ensures)
+    ∙ c .before .before .if1 .left in
+    let passes = eq-eqb (numberOf (checks .result)) 0 zero in
     rw (← checks .ensures, passes) (sym (under-end _ _ _ _ _ _ (c .before .loop .inv) (c .loop-test .left)))
 
 pub run-spec : {M : Type 1} → statement M

@@ -26,7 +26,10 @@ returns-2 : tie.Need-returns-2
 unfolding returning
 returns-2 c =
     let checks = c .before .before .before .held in
-    let passes = eq-eqb (numberOf (checks .result)) 0 (sym (c .before .before .number .ensures) ∙ c .before .if1 .left) in
+    let zero =
+    sym (c .before .before .number .ensures)
+    ∙ c .before .if1 .left in
+    let passes = eq-eqb (numberOf (checks .result)) 0 zero in
     rw (← checks .ensures, passes, eq-eqb _ 0 (c .if2 .taken))
 
 sub-read-record : tie.Need-sub-read-record
@@ -57,7 +60,10 @@ returns-3 : tie.Need-returns-3
 unfolding returning
 returns-3 c =
     let checks = c .before .before .before .before .before .before .before .before .held in
-    let passes = eq-eqb (numberOf (checks .result)) 0 (sym (c .before .before .before .before .before .before .before .number .ensures) ∙ c .before .before .before .before .before .before .if1 .left) in
+    let zero =
+    sym (c .before .before .before .before .before .before .before .number .ensures)
+    ∙ c .before .before .before .before .before .before .if1 .left in
+    let passes = eq-eqb (numberOf (checks .result)) 0 zero in
     let some = ne-eqb _ 0 (c .before .before .before .before .before .if2 .left) in
     rw (
       ← checks .ensures,
@@ -72,7 +78,10 @@ returns-4 : tie.Need-returns-4
 unfolding returning
 returns-4 c =
     let checks = c .before .before .before .before .before .before .before .before .before .held in
-    let passes = eq-eqb (numberOf (checks .result)) 0 (sym (c .before .before .before .before .before .before .before .before .number .ensures) ∙ c .before .before .before .before .before .before .before .if1 .left) in
+    let zero =
+    sym (c .before .before .before .before .before .before .before .before .number .ensures)
+    ∙ c .before .before .before .before .before .before .before .if1 .left in
+    let passes = eq-eqb (numberOf (checks .result)) 0 zero in
     let some = ne-eqb _ 0 (c .before .before .before .before .before .before .if2 .left) in
     rw (
       ← checks .ensures,

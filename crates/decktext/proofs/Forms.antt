@@ -1,0 +1,237 @@
+-- A line by its parsed values.
+use Prim.Native.Nat.{ℕ, _+_, _*_, _≤_, _<_}
+use mathlib.Core.Path.{_≡_, refl, sym, ap, _∙_, subst}
+use mathlib.Core.Bool.{Bool, true, false, cond}
+use mathlib.Core.List.{List, [], _∷_}
+use native.Mathlib.Omega.{arith}
+use lib.Dec.{eqb, leb, ltb}
+use lib.ListN.{length, getD, take}
+use lib.Seq.{take-all, getD-take}
+use borrow.Author.Tests.{eqb-true, eqb-false, leb-true, ltb-true}
+use Rattle.hexfloat.specs.Answer.{Answer, gives, stops}
+use Rattle.machine.specs.declared.order.Order.{Order}
+use Rattle.machine.specs.Order.{legalOf}
+use Rattle.machine.specs.Says.{provided, andThen}
+use Rattle.machine.proofs.Answers.{gives-inj, never, provided-gives, Real}
+use Rattle.decktext.specs.declared.line.Judged.{Judged}
+use Rattle.decktext.specs.Text.{same, valuesOf}
+use Rattle.decktext.specs.Value.{codeOf, decimalOf, protectOf, wordOf}
+use Rattle.decktext.specs.Format.{deckHeading, storageHeading, passes, legal, orderFrom, orderOf, Halfword, halfwordFrom, halfwordOf}
+use Rattle.decktext.specs.Read.{Wanted, heading, order, storage, halfword, Progress, Given, headed, ordered, parted, stored, orderFits, halfwordFits, lineAs}
+use Rattle.decktext.specs.Walk.{Storable, valueCount, inPlace, valueAs, orderFromValues, halfwordFromValues, judgedAs, faultOf, saysJudged}
+use Rattle.decktext.proofs.Same.{same-none, same-length}
+use Rattle.decktext.proofs.Answers.{Only16, and-then-gives, only-code, only-decimal, only-protect, only-word, protect-small}
+use Rattle.decktext.proofs.Parsed.{Kind, parsed, Placed, wrong-count}
+
+-- ---- the values' places
+
+last-place : (i last : ℕ) (a : Answer ℕ) (x : ℕ) → inPlace i true last a ≡ gives x → i + 1 ≡ last + 1
+last-place i last a x h = let q = provided-gives (eqb i last) 16 a h in rw (eqb-true i last (q .0))
+
+inner-by : (t : Bool) (a : Answer ℕ) (x : ℕ) → cond t (stops 16) a ≡ gives x → t ≡ false
+inner-by true a x h = never h
+inner-by false a x h = refl
+
+inner-place : (i last : ℕ) (a : Answer ℕ) (x : ℕ) → inPlace i false last a ≡ gives x → i + 1 ≡ last + 1 → ⊥
+inner-place i last a x h e = eqb-false i last (inner-by (eqb i last) a x h) (omega arith)
+
+either : (t : Bool) (a b : Answer ℕ) → Only16 a → Only16 b → Only16 (cond t a b)
+either true a b p q = p
+either false a b p q = q
+
+only-place : (i : ℕ) (ends : Bool) (last : ℕ) (a : Answer ℕ) → Only16 a → Only16 (inPlace i ends last a)
+only-place i true last a o = either (eqb i last) a (stops 16) o refl
+only-place i false last a o = either (eqb i last) (stops 16) a refl o
+
+order-placed : Placed (valueAs order) 4
+unfolding valueAs
+order-placed = record {
+  last = λ i v x h. last-place i 3 (cond (eqb i 0) (codeOf v) (decimalOf v)) x h;
+  inner = λ i v x h. inner-place i 3 (cond (eqb i 0) (codeOf v) (decimalOf v)) x h;
+  only = λ i b v. only-place i b 3 (cond (eqb i 0) (codeOf v) (decimalOf v)) (either (eqb i 0) (codeOf v) (decimalOf v) (only-code v) (only-decimal v));
+}
+
+halfword-placed : Placed (valueAs halfword) 3
+unfolding valueAs
+halfword-placed = record {
+  last = λ i v x h. last-place i 2 (cond (eqb i 0) (decimalOf v) (cond (eqb i 1) (protectOf v) (wordOf v))) x h;
+  inner = λ i v x h. inner-place i 2 (cond (eqb i 0) (decimalOf v) (cond (eqb i 1) (protectOf v) (wordOf v))) x h;
+  only = λ i b v.
+      only-place i b 2 (cond (eqb i 0) (decimalOf v) (cond (eqb i 1) (protectOf v) (wordOf v)))
+      (either (eqb i 0) (decimalOf v) (cond (eqb i 1) (protectOf v) (wordOf v)) (only-decimal v) (either (eqb i 1) (protectOf v) (wordOf v) (only-protect v) (only-word v)));
+}
+
+placed-by : (t : Bool) → 0 < cond t 0 4 → Placed (valueAs order) (cond t 0 4)
+placed-by true h = absurd (omega arith)
+placed-by false h = order-placed
+
+pub placed : (w : Wanted) (bytes : ℕ) → 0 < valueCount w bytes → Placed (valueAs w) (valueCount w bytes)
+placed heading bytes h = absurd (omega arith)
+placed order bytes h = placed-by (eqb bytes 0) h
+placed storage bytes h = absurd (omega arith)
+placed halfword bytes h = halfword-placed
+
+few-by : (t : Bool) → cond t 0 4 ≤ 4
+few-by true = omega arith
+few-by false = omega arith
+
+pub few : (w : Wanted) (bytes : ℕ) → valueCount w bytes ≤ 4
+few heading bytes = omega arith
+few order bytes = few-by (eqb bytes 0)
+few storage bytes = omega arith
+few halfword bytes = omega arith
+
+-- ---- orders and halfwords
+
+wrong : {B : Type 0} {k : Kind} {n : ℕ} → Placed k n → (vs : List (List ℕ)) → (length vs ≡ n → ⊥) → (f : List ℕ → Answer B) → stops 16 ≡ andThen (parsed k 0 vs) f
+wrong p vs h f = sym (ap (λ (a : Answer (List ℕ)). andThen a f) (wrong-count p vs h))
+
+four : {B : Type 0} (a b c d : Answer ℕ) (f : List ℕ → Answer B)
+    → andThen a (λ x. andThen b (λ y. andThen c (λ z. andThen d (λ u. f (x ∷ y ∷ z ∷ u ∷ [])))))
+      ≡ andThen (andThen a (λ x. andThen (andThen b (λ y. andThen (andThen c (λ z. andThen (andThen d (λ u. gives (u ∷ []))) (λ us. gives (z ∷ us)))) (λ zs. gives (y ∷ zs)))) (λ ys. gives (x ∷ ys)))) f
+four (stops n) b c d f = refl
+four (gives x) (stops n) c d f = refl
+four (gives x) (gives y) (stops n) d f = refl
+four (gives x) (gives y) (gives z) (stops n) f = refl
+four (gives x) (gives y) (gives z) (gives u) f = refl
+
+order-parsed : (vs : List (List ℕ)) → orderFrom vs ≡ andThen (parsed (valueAs order) 0 vs) (λ xs. legal (orderFromValues xs))
+unfolding orderFrom valueAs
+order-parsed [] = refl
+order-parsed (m ∷ []) = wrong order-placed (m ∷ []) (λ e. omega arith) (λ xs. legal (orderFromValues xs))
+order-parsed (m ∷ a ∷ []) = wrong order-placed (m ∷ a ∷ []) (λ e. omega arith) (λ xs. legal (orderFromValues xs))
+order-parsed (m ∷ a ∷ b ∷ []) = wrong order-placed (m ∷ a ∷ b ∷ []) (λ e. omega arith) (λ xs. legal (orderFromValues xs))
+order-parsed (m ∷ a ∷ b ∷ c ∷ []) = four (codeOf m) (decimalOf a) (decimalOf b) (decimalOf c) (λ xs. legal (orderFromValues xs))
+order-parsed (m ∷ a ∷ b ∷ c ∷ d ∷ vs) = wrong order-placed (m ∷ a ∷ b ∷ c ∷ d ∷ vs) (λ e. omega arith) (λ xs. legal (orderFromValues xs))
+
+three : {B : Type 0} (a b c : Answer ℕ) (f : List ℕ → Answer B)
+    → andThen a (λ x. andThen b (λ y. andThen c (λ z. f (x ∷ y ∷ z ∷ []))))
+      ≡ andThen (andThen a (λ x. andThen (andThen b (λ y. andThen (andThen c (λ z. gives (z ∷ []))) (λ zs. gives (y ∷ zs)))) (λ ys. gives (x ∷ ys)))) f
+three (stops n) b c f = refl
+three (gives x) (stops n) c f = refl
+three (gives x) (gives y) (stops n) f = refl
+three (gives x) (gives y) (gives z) f = refl
+
+halfword-parsed : (vs : List (List ℕ)) → halfwordFrom vs ≡ andThen (parsed (valueAs halfword) 0 vs) (λ xs. gives (halfwordFromValues xs))
+unfolding halfwordFrom valueAs
+halfword-parsed [] = refl
+halfword-parsed (a ∷ []) = wrong halfword-placed (a ∷ []) (λ e. omega arith) (λ xs. gives (halfwordFromValues xs))
+halfword-parsed (a ∷ p ∷ []) = wrong halfword-placed (a ∷ p ∷ []) (λ e. omega arith) (λ xs. gives (halfwordFromValues xs))
+halfword-parsed (a ∷ p ∷ w ∷ []) = three (decimalOf a) (protectOf p) (wordOf w) (λ xs. gives (halfwordFromValues xs))
+halfword-parsed (a ∷ p ∷ w ∷ x ∷ vs) = wrong halfword-placed (a ∷ p ∷ w ∷ x ∷ vs) (λ e. omega arith) (λ xs. gives (halfwordFromValues xs))
+
+-- ---- a line
+
+-- the line's values, where it has some, are the first of v
+abbrev pub Values : Wanted → List ℕ → List ℕ → Type 0
+Values w line v = 0 < valueCount w (length line) → parsed (valueAs w) 0 (valuesOf line) ≡ gives (take (valueCount w (length line)) v)
+
+judged-order : (p : Progress) (line v : List ℕ) → length v ≡ 4 → (t : Bool) → eqb (length line) 0 ≡ t
+    → (0 < cond t 0 4 → parsed (valueAs order) 0 (valuesOf line) ≡ gives (take (cond t 0 4) v)) → lineAs order p line ≡ judgedAs order p line v
+unfolding orderOf judgedAs
+judged-order p line v s true e h = rw (same-none line (eqb-true (length line) 0 e))
+judged-order p line v s false e h =
+    rw (same-length line [] (eqb-false (length line) 0 e), order-parsed (valuesOf line), h (omega arith), take-all 4 v (omega arith))
+
+pub judged : (w : Wanted) (p : Progress) (line v : List ℕ) → length v ≡ 4 → Values w line v → lineAs w p line ≡ judgedAs w p line v
+unfolding halfwordOf judgedAs
+judged heading p line v s h = refl
+judged order p line v s h = judged-order p line v s (eqb (length line) 0) refl h
+judged storage p line v s h = refl
+judged halfword p line v s h =
+    rw (halfword-parsed (valuesOf line), h (omega arith), getD-take 3 v 0 0 (omega arith), getD-take 3 v 1 0 (omega arith), getD-take 3 v 2 0 (omega arith))
+
+faulty-order : (p : Progress) (line : List ℕ) (t : Bool) → eqb (length line) 0 ≡ t → 0 < cond t 0 4
+    → parsed (valueAs order) 0 (valuesOf line) ≡ stops 16 → lineAs order p line ≡ stops 16
+unfolding orderOf
+faulty-order p line true e l h = absurd (omega arith)
+faulty-order p line false e l h = rw (same-length line [] (eqb-false (length line) 0 e), order-parsed (valuesOf line), h)
+
+pub faulty-line : (w : Wanted) (p : Progress) (line : List ℕ) → 0 < valueCount w (length line)
+    → parsed (valueAs w) 0 (valuesOf line) ≡ stops 16 → lineAs w p line ≡ stops 16
+unfolding halfwordOf
+faulty-line heading p line l h = absurd (omega arith)
+faulty-line order p line l h = faulty-order p line (eqb (length line) 0) refl l h
+faulty-line storage p line l h = absurd (omega arith)
+faulty-line halfword p line l h = rw (halfword-parsed (valuesOf line), h)
+
+-- ---- what a line gives fits
+
+protect-fits : (vs : List (List ℕ)) (h : Halfword) → halfwordFrom vs ≡ gives h → h .protect < 2
+unfolding halfwordFrom
+protect-fits [] h e = never e
+protect-fits (a ∷ []) h e = never e
+protect-fits (a ∷ p ∷ []) h e = never e
+protect-fits (a ∷ p ∷ w ∷ []) h e =
+    let q = and-then-gives (decimalOf a) (λ x. andThen (protectOf p) (λ y. andThen (wordOf w) (λ z. gives (record { at = x; protect = y; word = z })))) e in
+    let r = and-then-gives (protectOf p) (λ y. andThen (wordOf w) (λ z. gives (record { at = q .0; protect = y; word = z }))) (q .2) in
+    let s = and-then-gives (wordOf w) (λ z. gives (record { at = q .0; protect = r .0; word = z })) (r .2) in
+    let f : r .0 ≡ h .protect = ap (λ (g : Halfword). g .protect) (gives-inj (s .2)) in
+    rw f at (protect-small p (r .0) (r .1))
+protect-fits (a ∷ p ∷ w ∷ x ∷ vs) h e = never e
+
+abbrev Fits : Progress → Given → Type 0
+Fits p g = Storable g (p .count) (length (p .held .cells)) (length (p .held .memory)) (length (p .held .protect))
+
+heading-fits : (p : Progress) (ok : Bool) (g : Given) → provided ok 16 (gives headed) ≡ gives g → Fits p g
+heading-fits p ok g h = subst (λ (x : Given). Fits p x) (gives-inj (provided-gives ok 16 (gives headed) h .1)) tt
+
+order-fits : (p : Progress) (line : List ℕ) (t : Bool) (g : Given) → cond t (gives parted) (andThen (orderOf line) (orderFits p)) ≡ gives g → Fits p g
+order-fits p line true g h = subst (λ (x : Given). Fits p x) (gives-inj h) tt
+order-fits p line false g h =
+    let q = and-then-gives (orderOf line) (orderFits p) h in
+    let r = provided-gives (leb (p .count * 4 + 4) (length (p .held .cells))) 17 (gives (ordered (q .0))) (q .2) in
+    subst (λ (x : Given). Fits p x) (gives-inj (r .1)) (leb-true _ _ (r .0))
+
+pub fits : (w : Wanted) (p : Progress) (line : List ℕ) (g : Given) → lineAs w p line ≡ gives g → Fits p g
+unfolding halfwordOf
+fits heading p line g h = heading-fits p (same line deckHeading) g h
+fits order p line g h = order-fits p line (same line []) g h
+fits storage p line g h = heading-fits p (same line storageHeading) g h
+fits halfword p line g h =
+    let q = and-then-gives (halfwordOf line) (halfwordFits p) h in
+    let a = provided-gives (leb (p .least) (q .0 .at)) 16 _ (q .2) in
+    let b = provided-gives (ltb (q .0 .at) (length (p .held .memory))) 17 _ (a .1) in
+    let c = provided-gives (ltb (q .0 .at) (length (p .held .protect))) 17 (gives (stored (q .0))) (b .1) in
+    subst (λ (x : Given). Fits p x) (gives-inj (c .1)) (ltb-true _ _ (b .0), ltb-true _ _ (c .0), protect-fits (valuesOf line) (q .0) (q .1))
+
+-- ---- a fault has a number
+
+real-provided : {A : Type 0} (ok : Bool) (n : ℕ) (a : Answer A) → (n ≡ 0 → ⊥) → Real a → Real (provided ok n a)
+real-provided true n a h r = r
+real-provided false n a h r = h
+
+real-order : (p : Progress) (o : Order) (t : Bool) → Real (andThen (provided t 16 (gives o)) (orderFits p))
+real-order p o true = real-provided (leb (p .count * 4 + 4) (length (p .held .cells))) 17 (gives (ordered o)) (λ e. omega arith) tt
+real-order p o false = λ e. omega arith
+
+real-line : (p : Progress) (o : Order) (t : Bool) → Real (cond t (gives parted) (andThen (legal o) (orderFits p)))
+real-line p o true = tt
+real-line p o false = real-order p o (passes (legalOf o))
+
+pub real : (w : Wanted) (p : Progress) (line v : List ℕ) → Real (judgedAs w p line v)
+unfolding judgedAs
+real heading p line v = real-provided (same line deckHeading) 16 (gives headed) (λ e. omega arith) tt
+real order p line v = real-line p (orderFromValues v) (same line [])
+real storage p line v = real-provided (same line storageHeading) 16 (gives headed) (λ e. omega arith) tt
+real halfword p line v =
+    let h = halfwordFromValues v in
+    real-provided (leb (p .least) (h .at)) 16 _ (λ e. omega arith)
+    (real-provided (ltb (h .at) (length (p .held .memory))) 17 _ (λ e. omega arith)
+    (real-provided (ltb (h .at) (length (p .held .protect))) 17 (gives (stored h)) (λ e. omega arith) tt))
+
+-- ---- the count of values, by another name
+
+pub placed-at : (w : Wanted) (bytes n : ℕ) → n ≡ valueCount w bytes → 0 < n → Placed (valueAs w) n
+placed-at w bytes n e h = rw e (placed w bytes (rw e at h))
+
+pub values-at : (w : Wanted) (line : List ℕ) (n : ℕ) (v : List ℕ) → n ≡ valueCount w (length line) → (0 < n → parsed (valueAs w) 0 (valuesOf line) ≡ gives (take n v)) → Values w line v
+values-at w line n v e h = subst (λ (m : ℕ). 0 < m → parsed (valueAs w) 0 (valuesOf line) ≡ gives (take m v)) e h
+
+-- ---- a judged line
+
+pub by-number : (j : Judged) (n m : ℕ) → j ≡ Judged.Faulty m → n ≡ faultOf j → saysJudged j ≡ stops n
+by-number j n m e f = let g : n ≡ m = f ∙ ap faultOf e in ap saysJudged e ∙ ap (λ (x : ℕ). stops x) (sym g)
+
+pub real-fault : (w : Wanted) (p : Progress) (line v : List ℕ) {n : ℕ} → stops n ≡ judgedAs w p line v → n ≡ 0 → ⊥
+real-fault w p line v h = rw (← h) at (real w p line v)

@@ -1,0 +1,12 @@
+-- The laws of the reader.
+mod Digits
+mod Same
+mod Names
+mod Decimals
+mod Words
+mod Lines
+mod Answers
+mod Parsed
+mod Forms
+mod Walking
+mod Readings

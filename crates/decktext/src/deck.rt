@@ -1,0 +1,120 @@
+// Reading a deck text: the walk over lines and values, first to find a fault, then to write.
+use crate::given::store;
+use crate::line::Judged;
+use crate::line::Progress;
+use crate::line::Sizes;
+use crate::line::Wanted;
+use crate::line::advance;
+use crate::line::judge;
+use crate::line::value;
+use crate::line::values_wanted;
+use crate::span::find;
+use crate::value::Value;
+ghost use mathlib.Core.Path.{_≡_};
+ghost use Prim.Native.Nat.{_≤_};
+ghost use lib.ListN.{length};
+ghost use Rattle.decktext.specs.Read.{buffers, outcome, saysReading, readText};
+ghost use Rattle.decktext.specs.Walk.{faultOf, concluded, Walked};
+
+// The order count, or the number and the line of a refusal.
+pub enum Reading {
+    Taken(u32),
+    Refused(u8, u32),
+}
+
+pub fn read(text: &[u8], cells: &mut [u16], memory: &mut [u16], protect: &mut [u8]) -> Reading
+    ensures { λ r. ⌜ outcome (buffers (now (cells .exit)) (now (memory .exit)) (now (protect .exit))) (saysReading r) ≡ readText (now (text .entry)) (buffers (now (cells .entry)) (now (memory .entry)) (now (protect .entry))) ⌝ }
+{
+    if 32768 < text.len() {
+        return Reading::Refused(17, 0);
+    }
+    let found = walk(text, cells, memory, protect, false);
+    let Reading::Taken(_) = found else {
+        return found;
+    };
+    walk(text, cells, memory, protect, true)
+}
+
+// The walk is left at the first fault, with its line. Only where `writes` is set are the buffers
+// written.
+fn walk(
+    text: &[u8],
+    cells: &mut [u16],
+    memory: &mut [u16],
+    protect: &mut [u8],
+    writes: bool,
+) -> Reading
+    requires { ⌜ length (now text) ≤ 32768 ⌝ }
+    ensures { λ r. ⌜ Walked (now (text .entry)) writes (buffers (now (cells .entry)) (now (memory .entry)) (now (protect .entry))) (buffers (now (cells .exit)) (now (memory .exit)) (now (protect .exit))) r ⌝ }
+{
+    let sizes = Sizes {
+        cells: cells.len(),
+        memory: memory.len(),
+        protect: protect.len(),
+    };
+    let mut p = Progress {
+        wanted: Wanted::Heading,
+        count: 0,
+        least: 0,
+    };
+    let mut at = 0;
+    let mut line: u32 = 1;
+    let mut fault: u8 = 0;
+    'lines: while at < text.len() {
+        let end = find(text, at, text.len(), b'\n');
+        if end == text.len() {
+            fault = 16;
+            break 'lines;
+        }
+        let w = p.wanted;
+        let wanted = values_wanted(w, end - at);
+        let mut values = [0u16; 4];
+        let mut from = at;
+        let mut i = 0;
+        while i < wanted {
+            let to = find(text, from, end, b' ');
+            let Value::Of(v) = value(w, i, to == end, &text[from..to]) else {
+                fault = 16;
+                break 'lines;
+            };
+            values[i] = v;
+            from = to + 1;
+            i += 1;
+        }
+        let judged = judge(p, &text[at..end], values, sizes);
+        let Judged::Gives(g) = judged else {
+            fault = fault_of(judged);
+            break 'lines;
+        };
+        store(writes, g, p.count, cells, memory, protect);
+        p = advance(p, g);
+        at = end + 1;
+        line += 1;
+    }
+    conclude(fault, line, p)
+}
+
+fn fault_of(j: Judged) -> u8
+    ensures { λ r. ⌜ r ≡ faultOf j ⌝ }
+{
+    match j {
+        Judged::Gives(_) => 0,
+        Judged::Faulty(number) => number,
+    }
+}
+
+// The fault, where there is one; else what the end of the text says.
+fn conclude(fault: u8, line: u32, p: Progress) -> Reading
+    ensures { λ r. ⌜ saysReading r ≡ concluded fault line p ⌝ }
+{
+    if fault != 0 {
+        return Reading::Refused(fault, line);
+    }
+    let w = p.wanted;
+    match w {
+        Wanted::Heading => Reading::Refused(16, line),
+        Wanted::Order => Reading::Taken(p.count),
+        Wanted::Storage => Reading::Refused(16, line),
+        Wanted::Halfword => Reading::Taken(p.count),
+    }
+}

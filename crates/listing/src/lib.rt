@@ -1,0 +1,6 @@
+// From deck text to the bytes that `desk` writes.
+mod listing;
+mod text;
+
+pub use listing::answer;
+pub use text::Listing;

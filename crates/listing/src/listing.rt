@@ -1,0 +1,104 @@
+// What `desk` writes: a refused text's number and line, or what stands after the run.
+use crate::text::Listing;
+use crate::text::empty;
+use crate::text::with_byte;
+use crate::text::with_bytes;
+use crate::text::with_decimal;
+use crate::text::with_word;
+use decktext::Reading;
+use machine::Ran;
+use machine::Registers;
+ghost use mathlib.Core.Path.{_≡_};
+ghost use Prim.Native.Nat.{_+_, _<_, _≤_};
+ghost use Rattle.machine.specs.Stops.{numberOf};
+ghost use Rattle.listing.specs.Listing.{field, refusal, registerLine, registerLines, listed, listingOf};
+ghost use Rattle.listing.specs.Text.{textOf, Appended};
+
+// Reads the text, runs its orders from a fresh state to a stop, and lists what stands then. The
+// bytes past the length are free.
+pub fn answer(text: &[u8]) -> Listing
+    ensures { λ r. ⌜ textOf r ≡ listingOf (now (text .entry)) ⌝ }
+    ensures { λ r. ⌜ r .length ≤ 320 ⌝ }
+{
+    let mut cells = [0; 16384];
+    let mut memory = [0; 4096];
+    let mut protect = [0; 4096];
+    let mut journal = [0; 4096];
+    let reading = decktext::read(text, &mut cells, &mut memory, &mut protect);
+    match reading {
+        Reading::Refused(number, line) => list_refusal(number, line),
+        Reading::Taken(count) => {
+            let n = count as usize * 4;
+            let limit = 4294967295;
+            let fresh = machine::fresh();
+            list_run(machine::run(
+                fresh,
+                &cells[..n],
+                &mut memory,
+                &protect,
+                &mut journal,
+                limit,
+            ))
+        }
+    }
+}
+
+// A number in decimal, and the byte after it.
+fn with_field(t: Listing, n: u64, after: u8) -> Listing
+    requires { ⌜ t .length + 21 ≤ 320 ⌝ }
+    ensures { λ r. ⌜ Appended t r (field n after) ⌝ }
+    ensures { λ r. ⌜ r .length ≤ t .length + 21 ⌝ }
+{
+    with_byte(with_decimal(t, n), after)
+}
+
+fn list_refusal(number: u8, line: u32) -> Listing
+    ensures { λ r. ⌜ textOf r ≡ refusal number line ⌝ }
+    ensures { λ r. ⌜ r .length ≤ 320 ⌝ }
+{
+    let heading = with_bytes(empty(), b"stop line\n");
+    let t = with_field(heading, number as u64, b' ');
+    with_field(t, line as u64, b'\n')
+}
+
+fn list_run(r: Ran) -> Listing
+    ensures { λ t. ⌜ textOf t ≡ listed (r .count) (numberOf (r .stop)) (r .state .registers) ⌝ }
+    ensures { λ t. ⌜ t .length ≤ 320 ⌝ }
+{
+    let s = r.state;
+    let g = s.registers;
+    let stop = r.stop;
+    let heading = with_bytes(empty(), b"steps stop next cc mask\n");
+    let steps = with_field(heading, r.count as u64, b' ');
+    let stopped = with_field(steps, machine::number(stop) as u64, b' ');
+    let next = with_field(stopped, g.pointer as u64, b' ');
+    let code = with_field(next, g.code as u64, b' ');
+    let mask = with_field(code, g.mask as u64, b'\n');
+    let registers = with_bytes(mask, b"reg float general\n");
+    with_registers(registers, g)
+}
+
+fn with_registers(t: Listing, g: Registers) -> Listing
+    requires { ⌜ t .length ≤ 160 ⌝ }
+    ensures { λ r. ⌜ Appended t r (registerLines 8 (g .float) (g .general)) ⌝ }
+{
+    let mut next = t;
+    let float = g.float;
+    let general = g.general;
+    let mut i = 0;
+    while i < 8 {
+        next = with_register(next, i as u8, float[i], general[i]);
+        i += 1;
+    }
+    next
+}
+
+// A register's number and both contents.
+fn with_register(t: Listing, r: u8, float: u32, general: u32) -> Listing
+    requires { ⌜ (t .length ≤ 300) × (r < 8) ⌝ }
+    ensures { λ u. ⌜ Appended t u (registerLine r float general) ⌝ }
+{
+    let number = with_byte(with_byte(t, b'0' + r), b' ');
+    let left = with_byte(with_word(number, float), b' ');
+    with_byte(with_word(left, general), b'\n')
+}
