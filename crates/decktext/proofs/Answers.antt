@@ -8,7 +8,7 @@ use lib.Dec.{leb, eqb}
 use lib.ListN.{length}
 use Rattle.hexfloat.specs.Answer.{Answer, gives, stops}
 use Rattle.machine.specs.Says.{provided, andThen}
-use Rattle.machine.proofs.Answers.{gives-inj, never, provided-gives}
+use Rattle.machine.proofs.Answers.{gives-inj, never}
 use Rattle.decktext.specs.Text.{same}
 use Rattle.decktext.specs.Value.{plain, allDigits, numberFrom, allHexadecimal, codeAmong, codeOf, decimalOf, protectOf, wordOf, mnemonics}
 

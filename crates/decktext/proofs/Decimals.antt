@@ -1,14 +1,14 @@
 -- Decimals: one more digit of a number, and numbers of more than five digits.
 use mathlib.Core.Path.{_≡_, refl, sym, ap, _∙_}
-use mathlib.Core.Bool.{Bool, true, false, cond, not, _&&_}
+use mathlib.Core.Bool.{Bool, true, false, not, _&&_}
 use mathlib.Core.List.{List, [], _∷_}
-use Prim.Native.Nat.{ℕ, zero, suc, _+_, _-_, _*_, _^_, _≤_, _<_, zero-le}
-use native.Mathlib.Nat.{one-mul, le-trans, le-of-eq, le-refl, lt-of-lt-of-le, mul-one, mul-assoc, mul-comm, mul-le-mul-right, mul-le-mul-left, pow-suc, pow-le-pow-right}
+use Prim.Native.Nat.{ℕ, _+_, _-_, _*_, _^_, _≤_, _<_, zero-le}
+use native.Mathlib.Nat.{one-mul, le-trans, le-of-eq, lt-of-lt-of-le, mul-one, mul-assoc, mul-comm, mul-le-mul-right, pow-suc, pow-le-pow-right}
 use native.Mathlib.Omega.{arith}
 use lib.ListN.{length, getD, drop, drop-of-length-le}
 use lib.Dec.{eqb, leb}
 use borrow.Author.Tests.{eqb-false, leb-true, le-leb, lt-leb, ne-eqb}
-use Rattle.hexfloat.specs.Answer.{Answer, gives, stops}
+use Rattle.hexfloat.specs.Answer.{gives, stops}
 use Rattle.machine.specs.Says.{provided}
 use Rattle.decktext.specs.Value.{isDigit, markedDigit, allDigits, numberFrom, plain, decimalOf}
 use Rattle.decktext.proofs.Digits.{is-digit, no-digit, grown, next}
@@ -35,8 +35,10 @@ big b v d z l =
   where
     above : 48 ≤ b → (b ≡ 48 → ⊥) → 1 ≤ 0 * 10 + (b - 48)
     above h ne = omega arith
+
     wide : 65535 < 10 ^ 5
     wide = omega arith
+
     ten : 0 < 10
     ten = omega arith
 

@@ -5,7 +5,7 @@ use mathlib.Core.Bool.{Bool, true, false, cond}
 use mathlib.Core.List.{List, [], _∷_}
 use native.Mathlib.Omega.{arith}
 use lib.Dec.{eqb, leb, ltb}
-use lib.ListN.{length, getD, take}
+use lib.ListN.{length, take}
 use lib.Seq.{take-all, getD-take}
 use borrow.Author.Tests.{eqb-true, eqb-false, leb-true, ltb-true}
 use Rattle.hexfloat.specs.Answer.{Answer, gives, stops}
@@ -88,7 +88,7 @@ wrong p vs h f = sym (ap (λ (a : Answer (List ℕ)). andThen a f) (wrong-count 
 
 four : {B : Type 0} (a b c d : Answer ℕ) (f : List ℕ → Answer B)
     → andThen a (λ x. andThen b (λ y. andThen c (λ z. andThen d (λ u. f (x ∷ y ∷ z ∷ u ∷ [])))))
-      ≡ andThen (andThen a (λ x. andThen (andThen b (λ y. andThen (andThen c (λ z. andThen (andThen d (λ u. gives (u ∷ []))) (λ us. gives (z ∷ us)))) (λ zs. gives (y ∷ zs)))) (λ ys. gives (x ∷ ys)))) f
+    ≡ andThen (andThen a (λ x. andThen (andThen b (λ y. andThen (andThen c (λ z. andThen (andThen d (λ u. gives (u ∷ []))) (λ us. gives (z ∷ us)))) (λ zs. gives (y ∷ zs)))) (λ ys. gives (x ∷ ys)))) f
 four (stops n) b c d f = refl
 four (gives x) (stops n) c d f = refl
 four (gives x) (gives y) (stops n) d f = refl
@@ -106,7 +106,7 @@ order-parsed (m ∷ a ∷ b ∷ c ∷ d ∷ vs) = wrong order-placed (m ∷ a �
 
 three : {B : Type 0} (a b c : Answer ℕ) (f : List ℕ → Answer B)
     → andThen a (λ x. andThen b (λ y. andThen c (λ z. f (x ∷ y ∷ z ∷ []))))
-      ≡ andThen (andThen a (λ x. andThen (andThen b (λ y. andThen (andThen c (λ z. gives (z ∷ []))) (λ zs. gives (y ∷ zs)))) (λ ys. gives (x ∷ ys)))) f
+    ≡ andThen (andThen a (λ x. andThen (andThen b (λ y. andThen (andThen c (λ z. gives (z ∷ []))) (λ zs. gives (y ∷ zs)))) (λ ys. gives (x ∷ ys)))) f
 three (stops n) b c f = refl
 three (gives x) (stops n) c f = refl
 three (gives x) (gives y) (stops n) f = refl
@@ -170,30 +170,71 @@ protect-fits (a ∷ p ∷ w ∷ []) h e =
     rw f at (protect-small p (r .0) (r .1))
 protect-fits (a ∷ p ∷ w ∷ x ∷ vs) h e = never e
 
-abbrev Fits : Progress → Given → Type 0
+abbrev pub Fits : Progress → Given → Type 0
 Fits p g = Storable g (p .count) (length (p .held .cells)) (length (p .held .memory)) (length (p .held .protect))
 
-heading-fits : (p : Progress) (ok : Bool) (g : Given) → provided ok 16 (gives headed) ≡ gives g → Fits p g
-heading-fits p ok g h = subst (λ (x : Given). Fits p x) (gives-inj (provided-gives ok 16 (gives headed) h .1)) tt
+-- what a line of each kind can give
+abbrev pub Sound : Wanted → Progress → Given → Type 0
+Sound heading p headed = Unit {0}
+Sound heading p (ordered o) = ⊥
+Sound heading p parted = ⊥
+Sound heading p (stored h) = ⊥
+Sound order p headed = ⊥
+Sound order p (ordered o) = Fits p (ordered o)
+Sound order p parted = Unit {0}
+Sound order p (stored h) = ⊥
+Sound storage p headed = Unit {0}
+Sound storage p (ordered o) = ⊥
+Sound storage p parted = ⊥
+Sound storage p (stored h) = ⊥
+Sound halfword p headed = ⊥
+Sound halfword p (ordered o) = ⊥
+Sound halfword p parted = ⊥
+Sound halfword p (stored h) = (p .least ≤ h .at) × Fits p (stored h)
 
-order-fits : (p : Progress) (line : List ℕ) (t : Bool) (g : Given) → cond t (gives parted) (andThen (orderOf line) (orderFits p)) ≡ gives g → Fits p g
-order-fits p line true g h = subst (λ (x : Given). Fits p x) (gives-inj h) tt
-order-fits p line false g h =
+heading-given : (ok : Bool) (g : Given) → provided ok 16 (gives headed) ≡ gives g → headed ≡ g
+heading-given ok g h = gives-inj (provided-gives ok 16 (gives headed) h .1)
+
+order-sound : (p : Progress) (line : List ℕ) (t : Bool) (g : Given) → cond t (gives parted) (andThen (orderOf line) (orderFits p)) ≡ gives g → Sound order p g
+order-sound p line true g h = subst (λ (x : Given). Sound order p x) (gives-inj h) tt
+order-sound p line false g h =
     let q = and-then-gives (orderOf line) (orderFits p) h in
     let r = provided-gives (leb (p .count * 4 + 4) (length (p .held .cells))) 17 (gives (ordered (q .0))) (q .2) in
-    subst (λ (x : Given). Fits p x) (gives-inj (r .1)) (leb-true _ _ (r .0))
+    subst (λ (x : Given). Sound order p x) (gives-inj (r .1)) (leb-true _ _ (r .0))
 
-pub fits : (w : Wanted) (p : Progress) (line : List ℕ) (g : Given) → lineAs w p line ≡ gives g → Fits p g
+pub sound : (w : Wanted) (p : Progress) (line : List ℕ) (g : Given) → lineAs w p line ≡ gives g → Sound w p g
 unfolding halfwordOf
-fits heading p line g h = heading-fits p (same line deckHeading) g h
-fits order p line g h = order-fits p line (same line []) g h
-fits storage p line g h = heading-fits p (same line storageHeading) g h
-fits halfword p line g h =
+sound heading p line g h = subst (λ (x : Given). Sound heading p x) (heading-given (same line deckHeading) g h) tt
+sound order p line g h = order-sound p line (same line []) g h
+sound storage p line g h = subst (λ (x : Given). Sound storage p x) (heading-given (same line storageHeading) g h) tt
+sound halfword p line g h =
     let q = and-then-gives (halfwordOf line) (halfwordFits p) h in
     let a = provided-gives (leb (p .least) (q .0 .at)) 16 _ (q .2) in
     let b = provided-gives (ltb (q .0 .at) (length (p .held .memory))) 17 _ (a .1) in
     let c = provided-gives (ltb (q .0 .at) (length (p .held .protect))) 17 (gives (stored (q .0))) (b .1) in
-    subst (λ (x : Given). Fits p x) (gives-inj (c .1)) (ltb-true _ _ (b .0), ltb-true _ _ (c .0), protect-fits (valuesOf line) (q .0) (q .1))
+    subst (λ (x : Given). Sound halfword p x) (gives-inj (c .1))
+    (leb-true _ _ (a .0), (ltb-true _ _ (b .0), ltb-true _ _ (c .0), protect-fits (valuesOf line) (q .0) (q .1)))
+
+pub sound-fits : (w : Wanted) (p : Progress) (g : Given) → Sound w p g → Fits p g
+sound-fits w p headed s = tt
+sound-fits heading p (ordered o) s = absurd s
+sound-fits order p (ordered o) s = s
+sound-fits storage p (ordered o) s = absurd s
+sound-fits halfword p (ordered o) s = absurd s
+sound-fits w p parted s = tt
+sound-fits heading p (stored h) s = absurd s
+sound-fits order p (stored h) s = absurd s
+sound-fits storage p (stored h) s = absurd s
+sound-fits halfword p (stored h) s = s .1
+
+pub sound-rises : (w : Wanted) (p : Progress) (h : Halfword) → Sound w p (stored h) → p .least ≤ h .at
+sound-rises heading p h s = absurd s
+sound-rises order p h s = absurd s
+sound-rises storage p h s = absurd s
+sound-rises halfword p h s = s .0
+
+pub fits : (w : Wanted) (p : Progress) (line : List ℕ) (g : Given) → lineAs w p line ≡ gives g → Fits p g
+fits w p line g h = sound-fits w p g (sound w p line g h)
 
 -- ---- a fault has a number
 

@@ -10,3 +10,6 @@ mod Parsed
 mod Forms
 mod Walking
 mod Readings
+mod Passing
+pub mod Laws
+pub mod Theorems

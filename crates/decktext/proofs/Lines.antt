@@ -3,14 +3,13 @@ use mathlib.Core.Path.{_≡_, refl, sym, ap, _∙_}
 use mathlib.Core.Bool.{Bool, true, false, cond}
 use mathlib.Core.List.{List, [], _∷_}
 use Prim.Native.Nat.{ℕ, zero, suc, _+_, _-_, _≤_, _<_, suc-le-suc}
-use native.Mathlib.Nat.{zero-lt-suc, zero-add, suc-add, add-suc, le-of-suc-le-suc, le-refl}
-use native.Mathlib.Numerals.{add-one}
+use native.Mathlib.Nat.{zero-lt-suc, zero-add, suc-add, le-of-suc-le-suc, le-refl}
 use native.Mathlib.Omega.{arith}
-use lib.ListN.{length, getD, take, drop, length-take, length-drop, drop-of-length-le}
+use lib.ListN.{length, getD, take, drop, drop-of-length-le}
 use lib.Dec.{eqb}
 use lib.Seq.{take-nil, drop-nil, take-take, take-all, drop-drop, getD-take, getD-drop, slice, length-slice}
 use borrow.Author.Tests.{eq-eqb, ne-eqb}
-use Rattle.decktext.specs.Text.{Line, ended, unended, joined, linesOf, prefixed, valuesOf}
+use Rattle.decktext.specs.Text.{ended, unended, linesOf, prefixed, valuesOf}
 use Rattle.decktext.specs.Walk.{Stretch}
 
 -- n elements without b at the front

@@ -7,14 +7,14 @@ use native.Mathlib.Omega.{arith}
 use lib.ListN.{length}
 use borrow.Author.Tests.{le-ltb}
 use Rattle.decktext.specs.declared.deck.Reading.{Reading}
-use Rattle.decktext.specs.Read.{Buffers, Said, taken, refused, saysReading, outcome, Progress, Read, whole, faulty, settled, readText}
+use Rattle.decktext.specs.Read.{Buffers, Said, taken, refused, saysReading, outcome, Read, whole, faulty, settled, readText}
 use Rattle.decktext.specs.Walk.{saidOf, Walked}
 use Rattle.decktext.proofs.Walking.{all}
 
 pub apart : {m n k : ℕ} {C : Type 0} → taken m ≡ refused n k → C
 apart h = let z : _≡_ {A = ℕ} 0 1 = cc in absurd (omega arith)
 
-within-limit : (t : List ℕ) (b : Buffers) → length t ≤ 32768 → readText t b ≡ settled b (all t b)
+pub within-limit : (t : List ℕ) (b : Buffers) → length t ≤ 32768 → readText t b ≡ settled b (all t b)
 unfolding readText
 within-limit t b l = rw (le-ltb 32768 (length t) l)
 

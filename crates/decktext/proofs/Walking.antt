@@ -1,17 +1,16 @@
 -- The walk over the lines: what holds between two lines, and its laws (start, on, end and the two faults).
-use Prim.Native.Nat.{ℕ, _+_, _*_, _≤_, _<_, zero-le}
+use Prim.Native.Nat.{ℕ, _+_, _≤_, _<_, zero-le}
 use mathlib.Core.Path.{_≡_, refl, sym, ap, _∙_}
 use mathlib.Core.Bool.{Bool, true, false, cond}
-use mathlib.Core.List.{List, [], _∷_}
+use mathlib.Core.List.{List}
 use native.Mathlib.Omega.{arith}
 use lib.ListN.{length, drop, length-set}
-use lib.Dec.{eqb}
 use borrow.Author.Tests.{eq-eqb, ne-eqb}
 use Rattle.hexfloat.specs.Answer.{gives, stops}
 use Rattle.decktext.specs.declared.deck.Reading.{Reading}
 use Rattle.decktext.specs.declared.line.Progress.{Progress as Place}
 use Rattle.decktext.specs.declared.line.Sizes.{Sizes}
-use Rattle.decktext.specs.Text.{Line, linesOf}
+use Rattle.decktext.specs.Text.{linesOf}
 use Rattle.decktext.specs.Read.{Buffers, saysReading, Wanted, heading, order, storage, halfword, Progress, start as begun, Given, headed, ordered, parted, stored, lineRead, bufferedWith, advanced, Read, whole, faulty, endRead, linesRead}
 use Rattle.decktext.specs.Walk.{Stretch, Storable, wantedOf, progressOf, Sized, endSaid, concluded, saidOf, Walked}
 use Rattle.decktext.proofs.Forms.{fits}
@@ -119,7 +118,7 @@ pub record Left (t : List ℕ) (b : Buffers) (writes : Bool) (p : Place) (fault 
   pub written : writes ≡ true → (q : Progress) → all t b ≡ whole q → now ≡ q .held
 
 -- a whole text is no faulty one
-other : {n k : ℕ} {q : Progress} {C : Type 0} → faulty n k ≡ whole q → C
+pub other : {n k : ℕ} {q : Progress} {C : Type 0} → faulty n k ≡ whole q → C
 other h = let z : _≡_ {A = ℕ} 0 1 = cc in absurd (omega arith)
 
 end-said : (w : Wanted) (q : Progress) (line : ℕ) → endSaid w (q .count) line ≡ saidOf (endRead w q line)

@@ -1,13 +1,13 @@
 -- Words: four hexadecimal digits.
-use mathlib.Core.Path.{_≡_, refl, sym, ap, _∙_}
-use mathlib.Core.Bool.{Bool, true, false, _&&_}
-use mathlib.Core.List.{List, [], _∷_}
+use mathlib.Core.Path.{_≡_, refl, _∙_}
+use mathlib.Core.Bool.{true, false}
+use mathlib.Core.List.{List}
 use Prim.Native.Nat.{ℕ, _+_, _*_, _^_, _≤_, _<_, zero-le}
 use native.Mathlib.Omega.{arith}
 use lib.ListN.{length, getD, drop, drop-of-length-le}
 use borrow.Author.Tests.{eq-eqb, ne-eqb}
 use Rattle.hexfloat.specs.Answer.{gives, stops}
-use Rattle.decktext.specs.Value.{isHexadecimal, markedDigit, allHexadecimal, wordFrom, wordOf}
+use Rattle.decktext.specs.Value.{markedDigit, allHexadecimal, wordFrom, wordOf}
 use Rattle.decktext.proofs.Digits.{is-hexadecimal, no-hexadecimal, grown, next}
 
 -- n is the number of the first i bytes, all of them digits

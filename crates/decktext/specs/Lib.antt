@@ -4,3 +4,4 @@ pub mod Format
 pub mod Read
 pub mod Key
 pub mod Walk
+pub mod Theorems

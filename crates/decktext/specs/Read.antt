@@ -1,7 +1,7 @@
 -- Reading a deck text (document 01, 'Deck text'): which line is wanted at each number, and the first faulty line from the top, 16 before 17.
 use Prim.Native.Nat.{ℕ, _+_, _*_}
 use mathlib.Core.List.{List, [], _∷_}
-use mathlib.Core.Bool.{Bool, cond}
+use mathlib.Core.Bool.{cond}
 use lib.ListN.{length, set}
 use lib.Dec.{leb, ltb}
 use Rattle.hexfloat.specs.Answer.{Answer, gives, stops}

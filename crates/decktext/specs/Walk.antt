@@ -1,7 +1,7 @@
 -- What the functions of the walk say of their results, in the terms of the format.
 use Prim.Native.Nat.{ℕ, _+_, _*_, _≤_, _<_}
 use mathlib.Core.Path.{_≡_}
-use mathlib.Core.List.{List, [], _∷_}
+use mathlib.Core.List.{List, []}
 use mathlib.Core.Bool.{Bool, true, false, cond}
 use lib.ListN.{length, getD}
 use lib.Dec.{eqb}
@@ -18,7 +18,7 @@ use Rattle.decktext.specs.declared.line.Judged.{Judged}
 use Rattle.decktext.specs.Text.{same, linesOf}
 use Rattle.decktext.specs.Value.{codeOf, decimalOf, protectOf, wordOf}
 use Rattle.decktext.specs.Format.{deckHeading, storageHeading, legal, Halfword}
-use Rattle.decktext.specs.Read.{Buffers, buffers, Said, taken, refused, saysReading, Wanted, heading, order, storage, halfword, Progress, start, Given, headed, ordered, parted, stored, orderFits, halfwordFits, Read, whole, faulty, endRead, linesRead}
+use Rattle.decktext.specs.Read.{Buffers, Said, taken, refused, saysReading, Wanted, heading, order, storage, halfword, Progress, start, Given, headed, ordered, parted, stored, orderFits, halfwordFits, Read, whole, faulty, linesRead}
 
 -- r is the first place from `from` on, and before `end`, that holds the byte b, or `end`
 pub record Stretch (t : List ℕ) (from end b r : ℕ) : Type 0 where

@@ -12,7 +12,6 @@ use machine::Order;
 ghost use mathlib.Core.Path.{_≡_};
 ghost use mathlib.Core.Bool.{cond};
 ghost use Prim.Native.Nat.{_<_};
-ghost use lib.ListN.{length};
 ghost use Rattle.hexfloat.specs.Answer.{gives};
 ghost use Rattle.machine.specs.Says.{provided, andThen};
 ghost use Rattle.decktext.specs.Text.{same};

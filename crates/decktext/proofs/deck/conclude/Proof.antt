@@ -1,43 +1,32 @@
-use borrow.Author.Tests.{lt-ltb, le-ltb, le-leb, lt-leb, eq-eqb, ne-eqb, ltb-true, ltb-false, leb-true, leb-false, eqb-true, eqb-false, not-true, not-false}
+use borrow.Author.Tests.{eq-eqb, ne-eqb}
 use borrow.Author.Needs.{needs}
 use Rattle.decktext.proofs.deck.conclude.Statement.{statement}
 use Rattle.decktext.proofs.deck.conclude.Tie as tie
-use Rattle.decktext.proofs.deck.conclude.Reads as reads
-use Rattle.decktext.proofs.deck.conclude.Lts as lts
 
--- src/deck.rt:111:9
 returns : tie.Need-returns
 returns c = rw (ne-eqb _ 0 (c .if1 .taken))
 
--- src/deck.rt:115:28
 enum-told : tie.Need-enum-told
 enum-told c = search needs
 
--- src/deck.rt:116:26
 enum-told-2 : tie.Need-enum-told-2
 enum-told-2 c = search needs
 
--- src/deck.rt:117:28
 enum-told-3 : tie.Need-enum-told-3
 enum-told-3 c = search needs
 
--- src/deck.rt:118:29
 enum-told-4 : tie.Need-enum-told-4
 enum-told-4 c = search needs
 
--- src/deck.rt:107:1
 returns-2 : tie.Need-returns-2
 returns-2 c = rw (eq-eqb _ 0 (c .before .before .if1 .left), c .enum-told .given .1)
 
--- src/deck.rt:107:1
 returns-3 : tie.Need-returns-3
 returns-3 c = rw (eq-eqb _ 0 (c .before .before .if1 .left), c .enum-told2 .given .1)
 
--- src/deck.rt:107:1
 returns-4 : tie.Need-returns-4
 returns-4 c = rw (eq-eqb _ 0 (c .before .before .if1 .left), c .enum-told3 .given .1)
 
--- src/deck.rt:107:1
 returns-5 : tie.Need-returns-5
 returns-5 c = rw (eq-eqb _ 0 (c .before .before .if1 .left), c .enum-told4 .given .1)
 

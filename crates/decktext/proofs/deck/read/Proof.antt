@@ -1,62 +1,47 @@
 use Rattle.decktext.proofs.Readings.{refusal, taking}
 use Rattle.decktext.specs.Read.{readText}
-use borrow.Author.Tests.{lt-ltb, le-ltb, le-leb, lt-leb, eq-eqb, ne-eqb, ltb-true, ltb-false, leb-true, leb-false, eqb-true, eqb-false, not-true, not-false}
+use borrow.Author.Tests.{lt-ltb}
 use borrow.Author.Needs.{needs}
 use Rattle.decktext.proofs.deck.read.Statement.{statement}
 use Rattle.decktext.proofs.deck.read.Tie as tie
-use Rattle.decktext.proofs.deck.read.Reads as reads
-use Rattle.decktext.proofs.deck.read.Lts as lts
-use Rattle.decktext.proofs.deck.walk.Reads as walk-reads
 
--- src/deck.rt:29:9
 returns : tie.Need-returns
 unfolding readText
 returns c = rw (lt-ltb 32768 _ (c .if1 .taken))
 
--- src/deck.rt:31:9
 walk-requires : tie.Need-walk-requires
 walk-requires c κs = search needs
 
 enum-told : tie.Need-enum-told
 enum-told c = search needs
 
--- src/deck.rt:33:9
 enum-told-2 : tie.Need-enum-told-2
 enum-told-2 c = search needs
 
--- src/deck.rt:33:9
 same-length : tie.Need-same-length
 same-length c = search needs
 
--- src/deck.rt:33:9
 same-length-2 : tie.Need-same-length-2
 same-length-2 c = search needs
 
--- src/deck.rt:33:9
 same-length-3 : tie.Need-same-length-3
 same-length-3 c = search needs
 
--- src/deck.rt:33:9
 returns-2 : tie.Need-returns-2
 returns-2 c = refusal _ _ (c .before .before .before .before .before .before .before .before .walk .ensures) (c .before .before .before .before .before .before .before .before .before .before .before .before .if1 .left) (c .enum-told2 .given .1)
 
--- src/deck.rt:35:5
 walk-requires-2 : tie.Need-walk-requires-2
 walk-requires-2 c κs = search needs
 
--- src/deck.rt:25:1
 same-length-4 : tie.Need-same-length-4
 same-length-4 c = search needs
 
--- src/deck.rt:25:1
 same-length-5 : tie.Need-same-length-5
 same-length-5 c = search needs
 
--- src/deck.rt:25:1
 same-length-6 : tie.Need-same-length-6
 same-length-6 c = search needs
 
--- src/deck.rt:25:1
 returns-3 : tie.Need-returns-3
 returns-3 c = taking _ (c .before .before .before .before .before .before .before .before .before .before .before .before .before .before .before .before .before .before .walk .ensures) (c .before .before .before .before .before .before .before .before .before .before .enum-told .given .1) (c .before .before .before .before .before .before .walk2 .ensures) (c .before .before .before .before .before .before .before .before .before .before .before .before .before .before .before .before .before .before .before .before .before .before .if1 .left)
 

@@ -8,22 +8,12 @@ use Rattle.hexfloat.specs.Answer.{gives, stops}
 use mathlib.Core.Logic.{⊎-elim}
 use Rattle.decktext.proofs.Lines.{part, length-part}
 use lib.ListN.{length}
-use Prim.Native.Nat.{ℕ, suc, _+_, _-_, _*_, _^_, _≤_, _<_}
+use Prim.Native.Nat.{ℕ, _-_, _<_}
 use mathlib.Core.Path.{_≡_, refl, sym, ap, _∙_}
 use native.Mathlib.Omega.{arith}
 use borrow.Author.Needs.{needs}
 use Rattle.decktext.proofs.deck.walk.Statement.{statement}
 use Rattle.decktext.proofs.deck.walk.Tie as tie
-use Rattle.decktext.proofs.deck.walk.Reads as reads
-use Rattle.decktext.proofs.deck.walk.Lts as lts
-use Rattle.decktext.proofs.deck.conclude.Reads as conclude-reads
-use Rattle.decktext.proofs.deck.fault_of.Reads as fault-of-reads
-use Rattle.decktext.proofs.given.store.Reads as store-reads
-use Rattle.decktext.proofs.line.advance.Reads as advance-reads
-use Rattle.decktext.proofs.line.judge.Reads as judge-reads
-use Rattle.decktext.proofs.line.value.Reads as value-reads
-use Rattle.decktext.proofs.line.values_wanted.Reads as values-wanted-reads
-use Rattle.decktext.proofs.span.find.Reads as find-reads
 
 abbrev Inv-loop : tie.InvT-loop
 Inv-loop text cells memory protect writes sizes p at line fault₀ end w wanted values₀ from₀ i₀ fault values from i = (fault ≡ fault₀) × Taking (valueAs (wantedOf w)) wanted text at end from i values
@@ -89,156 +79,120 @@ left c =
     at-fault (c .before .lines .inv .1) (c .lines-test .fault) (λ z. real-fault (wantedOf (c .before .lines .p .wanted)) (progressOf (c .before .lines .p) (c .before .lines .inv .1 .held)) (part (c .before .lines .at) (w .1 .result) (c .before .before .before .before .before .before .args .text .now)) (w .4 .values) (sym (numbered d) ∙ w .7 .ensures (c .before .lines .inv .1 .held) (c .before .lines .inv .1 .sized)) (sym (w .11) ∙ z)) (rw (w .11) (bad-line d)))))
     (c .lines-test .came)
 
--- src/deck.rt:63:5
 lines-holds : tie.Need-lines-holds Inv-loop μ-loop Inv-lines μ-lines
 lines-holds c = (refl, start (record { cells = refl; memory = refl; protect = refl }) refl refl)
 
--- src/deck.rt:64:13
 find-requires : tie.Need-find-requires Inv-loop μ-loop Inv-lines μ-lines
 find-requires c κs = omega arith
 
--- src/deck.rt:70:39
 sub-values-wanted : tie.Need-sub-values-wanted Inv-loop μ-loop Inv-lines μ-lines
 sub-values-wanted c = omega arith
 
--- src/deck.rt:70:13
 values-wanted-requires : tie.Need-values-wanted-requires Inv-loop μ-loop Inv-lines μ-lines
 values-wanted-requires c κs = search needs
 
--- src/deck.rt:74:9
 loop-holds : tie.Need-loop-holds Inv-loop μ-loop Inv-lines μ-lines
 loop-holds c = (refl, begin (c .values-wanted .result) _ (rw (c .values-wanted .ensures) (few (wantedOf (c .before .before .before .before .lines .p .wanted)) (c .before .before .find .result - c .before .before .before .before .lines .at))) (c .before .before .find .ensures .low) refl)
 
--- src/deck.rt:75:17
 find-requires-2 : tie.Need-find-requires-2 Inv-loop μ-loop Inv-lines μ-lines
 find-requires-2 c κs = (c .before .loop .inv .1 .inside (c .loop-test .taken), c .before .before .before .before .find .ensures .high)
 
--- src/deck.rt:76:55
 sub-value : tie.Need-sub-value Inv-loop μ-loop Inv-lines μ-lines
 sub-value c = omega arith
 
--- src/deck.rt:76:55
 part-value-start : tie.Need-part-value-start Inv-loop μ-loop Inv-lines μ-lines
 part-value-start c = omega arith
 
--- src/deck.rt:76:55
 part-value-end : tie.Need-part-value-end Inv-loop μ-loop Inv-lines μ-lines
 part-value-end c = omega arith
 
--- src/deck.rt:76:32
 value-requires : tie.Need-value-requires Inv-loop μ-loop Inv-lines μ-lines
 value-requires c κs = search needs
 
--- src/deck.rt:76:27
 enum-known-v : tie.Need-enum-known-v Inv-loop μ-loop Inv-lines μ-lines
 enum-known-v c = search needs
 
--- src/deck.rt:77:17
 enum-told : tie.Need-enum-told Inv-loop μ-loop Inv-lines μ-lines
 enum-told c = search needs
 
--- src/deck.rt:80:13
 mul-values : tie.Need-mul-values Inv-loop μ-loop Inv-lines μ-lines
 mul-values c = omega arith
 
--- src/deck.rt:80:13
 array-write-values : tie.Need-array-write-values Inv-loop μ-loop Inv-lines μ-lines
 array-write-values c = omega arith
 
--- src/deck.rt:81:20
 add-from : tie.Need-add-from Inv-loop μ-loop Inv-lines μ-lines
 add-from c = omega arith
 
--- src/deck.rt:82:13
 add-i : tie.Need-add-i Inv-loop μ-loop Inv-lines μ-lines
 add-i c = omega arith
 
--- src/deck.rt:74:9
 loop-less : tie.Need-loop-less Inv-loop μ-loop Inv-lines μ-lines
 loop-less c = omega arith
 
--- src/deck.rt:74:9
 loop-again : tie.Need-loop-again Inv-loop μ-loop Inv-lines μ-lines
 loop-again c = (
   c .before .before .before .before .before .before .before .loop .inv .0,
   on-value (c .before .before .before .before .before .before .before .loop .inv .1) (c .before .before .before .before .before .before .loop-test .taken) (c .before .before .before .before .before .find2 .ensures) (c .before .before .before .before .before .before .before .before .before .before .find .ensures .high)
-  (placed-at (wantedOf (c .before .before .before .before .before .before .before .before .before .before .before .before .lines .p .wanted)) _ (c .before .before .before .before .before .before .before .before .values-wanted .result) (c .before .before .before .before .before .before .before .before .values-wanted .ensures) (omega (arith, c .before .before .before .before .before .before .loop-test .taken)))
-  (c .before .v .given .0 .0) (sym (c .before .before .before .value .ensures) ∙ ap saysValue (c .before .v .given .1)),
+      (placed-at (wantedOf (c .before .before .before .before .before .before .before .before .before .before .before .before .lines .p .wanted)) _ (c .before .before .before .before .before .before .before .before .values-wanted .result) (c .before .before .before .before .before .before .before .before .values-wanted .ensures) (omega (arith, c .before .before .before .before .before .before .loop-test .taken)))
+      (c .before .v .given .0 .0) (sym (c .before .before .before .value .ensures) ∙ ap saysValue (c .before .v .given .1)),
 )
 
--- src/deck.rt:84:31
 sub-judge : tie.Need-sub-judge Inv-loop μ-loop Inv-lines μ-lines
 sub-judge c = omega arith
 
--- src/deck.rt:84:31
 part-judge-start : tie.Need-part-judge-start Inv-loop μ-loop Inv-lines μ-lines
 part-judge-start c = omega arith
 
--- src/deck.rt:84:31
 part-judge-end : tie.Need-part-judge-end Inv-loop μ-loop Inv-lines μ-lines
 part-judge-end c = omega arith
 
--- src/deck.rt:84:13
 judge-requires : tie.Need-judge-requires Inv-loop μ-loop Inv-lines μ-lines
 judge-requires c κs = omega (arith, c .before .before .before .before .before .before .before .lines .inv .1 .orders, c .before .before .before .before .before .before .lines-test .taken, c .before .before .before .before .before .before .before .before .before .before .before .before .pre)
 
--- src/deck.rt:85:27
 enum-known-judged : tie.Need-enum-known-judged Inv-loop μ-loop Inv-lines μ-lines
 enum-known-judged c = search needs
 
--- src/deck.rt:86:13
 enum-told-2 : tie.Need-enum-told-2 Inv-loop μ-loop Inv-lines μ-lines
 enum-told-2 c = search needs
 
--- src/deck.rt:86:13
 fault-of-requires : tie.Need-fault-of-requires Inv-loop μ-loop Inv-lines μ-lines
 fault-of-requires c κs = search needs
 
--- src/deck.rt:89:9
 store-requires : tie.Need-store-requires Inv-loop μ-loop Inv-lines μ-lines
 store-requires c κs = storable (c .before .before .before .before .before .before .before .before .before .before .before .before .before .before .lines .inv .1) (part (c .before .before .before .before .before .before .before .before .before .before .before .before .before .before .lines .at) (c .before .before .before .before .before .before .before .before .before .before .before .before .find .result) (c .before .before .before .before .before .before .before .before .before .before .before .before .before .before .before .before .before .before .before .args .text .now)) (givenOf (c .before .before .before .before .judged .given .0 .0)) (given (c .before .before .before))
 
--- src/deck.rt:90:9
 advance-requires : tie.Need-advance-requires Inv-loop μ-loop Inv-lines μ-lines
 advance-requires c κs = omega (arith, c .before .before .before .before .before .before .before .before .before .before .before .before .before .before .before .before .before .before .before .before .before .lines .inv .1 .orders, c .before .before .before .before .before .before .before .before .before .before .before .before .before .before .before .before .before .before .before .before .lines-test .taken, c .before .before .before .before .before .before .before .before .before .before .before .before .before .before .before .before .before .before .before .before .before .before .before .before .before .before .pre)
 
--- src/deck.rt:91:14
 add-at : tie.Need-add-at Inv-loop μ-loop Inv-lines μ-lines
 add-at c = omega (arith, c .before .before .before .before .before .before .before .before .before .before .before .before .before .before .before .before .before .before .before .before .find .ensures .high, c .before .before .before .before .before .before .before .before .before .before .before .before .before .before .before .before .before .before .before .before .before .before .before .before .before .before .before .pre)
 
--- src/deck.rt:92:9
 add-line : tie.Need-add-line Inv-loop μ-loop Inv-lines μ-lines
 add-line c = omega (arith, c .before .before .before .before .before .before .before .before .before .before .before .before .before .before .before .before .before .before .before .before .before .before .lines .inv .1 .lines, c .before .before .before .before .before .before .before .before .before .before .before .before .before .before .before .before .before .before .before .before .before .before .lines .inv .1 .reach, c .before .before .before .before .before .before .before .before .before .before .before .before .before .before .before .before .before .before .before .before .before .before .before .before .before .before .before .pre)
 
--- src/deck.rt:63:5
 lines-less : tie.Need-lines-less Inv-loop μ-loop Inv-lines μ-lines
 lines-less c = omega (arith, c .before .before .before .before .before .before .before .before .before .before .before .before .before .before .before .before .before .before .before .before .find .ensures .low, c .before .before .before .before .before .before .before .before .before .before .before .before .before .before .before .before .before .before .before .before .find .ensures .high, ended (c .before .before .before .before .before .before .before .before .before .before .before .before .before .before .before .before .before .before .before))
 
--- src/deck.rt:63:5
 lines-again : tie.Need-lines-again Inv-loop μ-loop Inv-lines μ-lines
 lines-again c = (
   c .before .before .before .before .before .before .before .before .before .before .before .before .before .before .before .before .before .loop .inv .0 ∙ c .before .before .before .before .before .before .before .before .before .before .before .before .before .before .before .before .before .before .before .before .before .before .lines .inv .0,
   on (c .before .before .before .before .before .before .before .before .before .before .before .before .before .before .before .before .before .before .before .before .before .before .lines .inv .1) (c .before .before .before .before .before .before .before .before .before .before .before .before .before .before .before .before .before .before .before .before .find .ensures) (ended (c .before .before .before .before .before .before .before .before .before .before .before .before .before .before .before .before .before .before .before)) (givenOf (c .before .before .before .before .before .before .before .before .before .before .before .before .judged .given .0 .0)) (given (c .before .before .before .before .before .before .before .before .before .before .before))
-  (c .advance .result) (c .advance .ensures) _ (c .before .before .before .before .before .before .before .store .ensures),
+      (c .advance .result) (c .advance .ensures) _ (c .before .before .before .before .before .before .before .store .ensures),
 )
 
--- src/deck.rt:94:5
 conclude-requires : tie.Need-conclude-requires Inv-loop μ-loop Inv-lines μ-lines
 conclude-requires c κs = search needs
 
--- src/deck.rt:40:1
 same-length : tie.Need-same-length Inv-loop μ-loop Inv-lines μ-lines
 same-length c = sizes (c .before .before .lines .inv .1) .cells ∙ sym (c .before .before .lines .inv .1 .first .cells)
 
--- src/deck.rt:40:1
 same-length-2 : tie.Need-same-length-2 Inv-loop μ-loop Inv-lines μ-lines
 same-length-2 c = sizes (c .before .before .lines .inv .1) .memory ∙ sym (c .before .before .lines .inv .1 .first .memory)
 
--- src/deck.rt:40:1
 same-length-3 : tie.Need-same-length-3 Inv-loop μ-loop Inv-lines μ-lines
 same-length-3 c = sizes (c .before .before .lines .inv .1) .protect ∙ sym (c .before .before .lines .inv .1 .first .protect)
 
--- src/deck.rt:40:1
 returns : tie.Need-returns Inv-loop μ-loop Inv-lines μ-lines
 returns c = walked (left (c .before)) (c .conclude .ensures)
 

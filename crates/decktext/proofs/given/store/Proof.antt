@@ -1,127 +1,98 @@
 use native.Mathlib.Omega.{arith}
-use borrow.Author.Tests.{lt-ltb, le-ltb, le-leb, lt-leb, eq-eqb, ne-eqb, ltb-true, ltb-false, leb-true, leb-false, eqb-true, eqb-false, not-true, not-false}
+use borrow.Author.Tests.{not-true, not-false}
 use lib.ListN.{length-set}
 use Rattle.decktext.specs.Read.{bufferedWith}
 use borrow.Author.Needs.{needs}
 use Rattle.decktext.proofs.given.store.Statement.{statement}
 use Rattle.decktext.proofs.given.store.Tie as tie
-use Rattle.decktext.proofs.given.store.Reads as reads
-use Rattle.decktext.proofs.given.store.Lts as lts
 
--- src/given.rt:36:9
 returns : tie.Need-returns
 returns c = rw (not-true (c .before .args .writes) (c .if1 .taken))
 
 enum-told : tie.Need-enum-told
 enum-told c = search needs
 
--- src/given.rt:40:24
 enum-known-g : tie.Need-enum-known-g
 enum-known-g c = search needs
 
--- src/given.rt:41:21
 mul-i : tie.Need-mul-i
 mul-i c = search needs
 
--- src/given.rt:42:13
 mul-cells : tie.Need-mul-cells
 mul-cells c = search needs
 
--- src/given.rt:42:13
 slice-write-cells : tie.Need-slice-write-cells
 slice-write-cells c = let h = rw (c .before .g .given .1) at (c .before .before .before .before .pre) in omega arith
 
--- src/given.rt:43:19
 add-cells : tie.Need-add-cells
 add-cells c = search needs
 
--- src/given.rt:43:13
 mul-cells-2 : tie.Need-mul-cells-2
 mul-cells-2 c = search needs
 
--- src/given.rt:43:13
 slice-write-cells-2 : tie.Need-slice-write-cells-2
 slice-write-cells-2 c = let h = rw (c .before .g .given .1) at (c .before .before .before .before .pre) in simp length-set (omega arith)
 
--- src/given.rt:44:19
 add-cells-2 : tie.Need-add-cells-2
 add-cells-2 c = search needs
 
--- src/given.rt:44:13
 mul-cells-3 : tie.Need-mul-cells-3
 mul-cells-3 c = search needs
 
--- src/given.rt:44:13
 slice-write-cells-3 : tie.Need-slice-write-cells-3
 slice-write-cells-3 c = let h = rw (c .before .g .given .1) at (c .before .before .before .before .pre) in simp length-set (omega arith)
 
--- src/given.rt:45:19
 add-cells-3 : tie.Need-add-cells-3
 add-cells-3 c = search needs
 
--- src/given.rt:45:13
 mul-cells-4 : tie.Need-mul-cells-4
 mul-cells-4 c = search needs
 
--- src/given.rt:45:13
 slice-write-cells-4 : tie.Need-slice-write-cells-4
 slice-write-cells-4 c = let h = rw (c .before .g .given .1) at (c .before .before .before .before .pre) in simp length-set (omega arith)
 
 enum-told-2 : tie.Need-enum-told-2
 enum-told-2 c = search needs
 
--- src/given.rt:48:23
 enum-known-g-2 : tie.Need-enum-known-g-2
 enum-known-g-2 c = search needs
 
--- src/given.rt:49:21
 cast-i : tie.Need-cast-i
 cast-i c = search needs
 
--- src/given.rt:50:13
 mul-memory : tie.Need-mul-memory
 mul-memory c = search needs
 
--- src/given.rt:50:13
 slice-write-memory : tie.Need-slice-write-memory
 slice-write-memory c = let h = rw (c .before .before .g2 .given .1) at (c .before .before .before .before .before .pre) in omega arith
 
--- src/given.rt:51:26
 cast-protect : tie.Need-cast-protect
 cast-protect c = let h = rw (c .before .before .before .g2 .given .1) at (c .before .before .before .before .before .before .pre) in omega arith
 
--- src/given.rt:51:13
 slice-write-protect : tie.Need-slice-write-protect
 slice-write-protect c = let h = rw (c .before .before .before .g2 .given .1) at (c .before .before .before .before .before .before .pre) in omega arith
 
--- src/given.rt:24:1
 returns-2 : tie.Need-returns-2
 unfolding bufferedWith
 returns-2 c = rw (not-false (c .before .before .before .args .writes) (c .before .before .if1 .left), c .enum-told .given .1)
 
--- src/given.rt:24:1
 same-length : tie.Need-same-length
 same-length c = search needs
 
--- src/given.rt:24:1
 returns-3 : tie.Need-returns-3
 unfolding bufferedWith
 returns-3 c = rw (not-false (c .before .before .before .before .args .writes) (c .before .before .before .if1 .left), c .before .g .given .1)
 
--- src/given.rt:24:1
 returns-4 : tie.Need-returns-4
 unfolding bufferedWith
 returns-4 c = rw (not-false (c .before .before .before .args .writes) (c .before .before .if1 .left), c .enum-told2 .given .1)
 
--- src/given.rt:24:1
 same-length-2 : tie.Need-same-length-2
 same-length-2 c = search needs
 
--- src/given.rt:24:1
 same-length-3 : tie.Need-same-length-3
 same-length-3 c = search needs
 
--- src/given.rt:24:1
 returns-5 : tie.Need-returns-5
 unfolding bufferedWith
 returns-5 c = rw (not-false (c .before .before .before .before .before .before .args .writes) (c .before .before .before .before .before .if1 .left), c .before .before .before .g2 .given .1)

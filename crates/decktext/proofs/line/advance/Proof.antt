@@ -2,58 +2,43 @@ use Rattle.decktext.specs.Read.{bufferedWith, advanced}
 use borrow.Author.Needs.{needs}
 use Rattle.decktext.proofs.line.advance.Statement.{statement}
 use Rattle.decktext.proofs.line.advance.Tie as tie
-use Rattle.decktext.proofs.line.advance.Reads as reads
-use Rattle.decktext.proofs.line.advance.Lts as lts
-use Rattle.decktext.proofs.line.after_heading.Reads as after-heading-reads
 
--- src/line.rt:177:17
 enum-told : tie.Need-enum-told
 enum-told c = search needs
 
--- src/line.rt:179:25
 after-heading-requires : tie.Need-after-heading-requires
 after-heading-requires c κs = search needs
 
--- src/line.rt:185:21
 enum-told-2 : tie.Need-enum-told-2
 enum-told-2 c = search needs
 
--- src/line.rt:186:20
 add-t8 : tie.Need-add-t8
 add-t8 c = search needs
 
--- src/line.rt:190:21
 enum-told-3 : tie.Need-enum-told-3
 enum-told-3 c = search needs
 
--- src/line.rt:194:23
 enum-known-g : tie.Need-enum-known-g
 enum-known-g c = search needs
 
--- src/line.rt:197:20
 cast-t11 : tie.Need-cast-t11
 cast-t11 c = search needs
 
--- src/line.rt:197:20
 add-t12 : tie.Need-add-t12
 add-t12 c = search needs
 
--- src/line.rt:171:1
 returns : tie.Need-returns
 unfolding bufferedWith advanced
 returns c = λ b. rw (c .before .enum-told .given .1, c .after-heading .ensures)
 
--- src/line.rt:171:1
 returns-2 : tie.Need-returns-2
 unfolding bufferedWith advanced
 returns-2 c = λ b. rw (c .before .enum-told2 .given .1)
 
--- src/line.rt:171:1
 returns-3 : tie.Need-returns-3
 unfolding bufferedWith advanced
 returns-3 c = λ b. rw (c .enum-told3 .given .1)
 
--- src/line.rt:171:1
 returns-4 : tie.Need-returns-4
 unfolding bufferedWith advanced
 returns-4 c = λ b. rw (c .before .before .g .given .1)

@@ -1,22 +1,16 @@
-use borrow.Author.Tests.{lt-ltb, le-ltb, le-leb, lt-leb, eq-eqb, ne-eqb, ltb-true, ltb-false, leb-true, leb-false, eqb-true, eqb-false, not-true, not-false}
+use borrow.Author.Tests.{eq-eqb, ne-eqb}
 use Rattle.decktext.proofs.line.in_place.Statement.{statement}
 use Rattle.decktext.proofs.line.in_place.Tie as tie
-use Rattle.decktext.proofs.line.in_place.Reads as reads
-use Rattle.decktext.proofs.line.in_place.Lts as lts
 
--- src/line.rt:84:1
 returns : tie.Need-returns
 returns c = rw (c .before .if1 .taken, eq-eqb _ _ (c .if2 .taken))
 
--- src/line.rt:84:1
 returns-2 : tie.Need-returns-2
 returns-2 c = rw (c .before .if1 .taken, ne-eqb _ _ (c .if2 .left))
 
--- src/line.rt:84:1
 returns-3 : tie.Need-returns-3
 returns-3 c = rw (c .before .if1 .left, eq-eqb _ _ (c .if3 .taken))
 
--- src/line.rt:84:1
 returns-4 : tie.Need-returns-4
 returns-4 c = rw (c .before .if1 .left, ne-eqb _ _ (c .if3 .left))
 

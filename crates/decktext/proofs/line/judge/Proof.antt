@@ -4,101 +4,74 @@ use mathlib.Core.List.{[]}
 use borrow.Author.Needs.{needs}
 use Rattle.decktext.proofs.line.judge.Statement.{statement}
 use Rattle.decktext.proofs.line.judge.Tie as tie
-use Rattle.decktext.proofs.line.judge.Reads as reads
-use Rattle.decktext.proofs.line.judge.Lts as lts
-use Rattle.decktext.proofs.line.judge_halfword.Reads as judge-halfword-reads
-use Rattle.decktext.proofs.line.judge_heading.Reads as judge-heading-reads
-use Rattle.decktext.proofs.line.judge_order.Reads as judge-order-reads
 
--- src/line.rt:101:48
 enum-told : tie.Need-enum-told
 enum-told c = search needs
 
--- src/line.rt:101:48
 slice-aggregate-judge-heading : tie.Need-slice-aggregate-judge-heading
 slice-aggregate-judge-heading c = search needs
 
--- src/line.rt:101:28
 judge-heading-requires : tie.Need-judge-heading-requires
 judge-heading-requires c κs = search needs
 
--- src/line.rt:103:16
 enum-told-2 : tie.Need-enum-told-2
 enum-told-2 c = search needs
 
--- src/line.rt:104:17
 returns : tie.Need-returns
 unfolding judgedAs
 returns c = λ b s. rw (c .before .enum-told2 .given .1, same-none _ (c .if1 .taken))
 
--- src/line.rt:109:27
 array-read-t17 : tie.Need-array-read-t17
 array-read-t17 c = search needs
 
--- src/line.rt:110:25
 array-read-t20 : tie.Need-array-read-t20
 array-read-t20 c = search needs
 
--- src/line.rt:111:25
 array-read-t23 : tie.Need-array-read-t23
 array-read-t23 c = search needs
 
--- src/line.rt:112:25
 array-read-t26 : tie.Need-array-read-t26
 array-read-t26 c = search needs
 
--- src/line.rt:106:13
 judge-order-requires : tie.Need-judge-order-requires
 judge-order-requires c κs = search needs
 
--- src/line.rt:117:48
 enum-told-3 : tie.Need-enum-told-3
 enum-told-3 c = search needs
 
--- src/line.rt:117:48
 slice-aggregate-judge-heading-2 : tie.Need-slice-aggregate-judge-heading-2
 slice-aggregate-judge-heading-2 c = search needs
 
--- src/line.rt:117:28
 judge-heading-requires-2 : tie.Need-judge-heading-requires-2
 judge-heading-requires-2 c κs = search needs
 
--- src/line.rt:121:21
 enum-told-4 : tie.Need-enum-told-4
 enum-told-4 c = search needs
 
--- src/line.rt:121:21
 array-read-t32 : tie.Need-array-read-t32
 array-read-t32 c = search needs
 
--- src/line.rt:122:26
 array-read-t35 : tie.Need-array-read-t35
 array-read-t35 c = search needs
 
--- src/line.rt:123:23
 array-read-t38 : tie.Need-array-read-t38
 array-read-t38 c = search needs
 
--- src/line.rt:118:29
 judge-halfword-requires : tie.Need-judge-halfword-requires
 judge-halfword-requires c κs = search needs
 
--- src/line.rt:95:1
 returns-2 : tie.Need-returns-2
 unfolding judgedAs
 returns-2 c = λ b s. rw (c .before .before .enum-told .given .1) (c .judge-heading .ensures)
 
--- src/line.rt:95:1
 returns-3 : tie.Need-returns-3
 unfolding judgedAs
 returns-3 c = λ b s. rw (c .before .before .enum-told2 .given .1, same-length _ [] (c .before .if1 .left)) (c .judge-order .ensures b s)
 
--- src/line.rt:95:1
 returns-4 : tie.Need-returns-4
 unfolding judgedAs
 returns-4 c = λ b s. rw (c .before .before .enum-told3 .given .1) (c .judge-heading2 .ensures)
 
--- src/line.rt:95:1
 returns-5 : tie.Need-returns-5
 unfolding judgedAs
 returns-5 c = λ b s. rw (c .before .enum-told4 .given .1) (c .judge-halfword .ensures b s)

@@ -1,31 +1,23 @@
-use borrow.Author.Tests.{lt-ltb, le-ltb, le-leb, lt-leb, eq-eqb, ne-eqb, ltb-true, ltb-false, leb-true, leb-false, eqb-true, eqb-false, not-true, not-false}
+use borrow.Author.Tests.{lt-ltb, le-ltb, le-leb, lt-leb}
 use borrow.Author.Needs.{needs}
 use Rattle.decktext.proofs.line.judge_halfword.Statement.{statement}
 use Rattle.decktext.proofs.line.judge_halfword.Tie as tie
-use Rattle.decktext.proofs.line.judge_halfword.Reads as reads
-use Rattle.decktext.proofs.line.judge_halfword.Lts as lts
 
--- src/line.rt:157:14
 cast-at : tie.Need-cast-at
 cast-at c = search needs
 
--- src/line.rt:159:9
 returns : tie.Need-returns
 returns c = λ b s. rw (lt-leb _ _ (c .if1 .taken))
 
--- src/line.rt:161:13
 cast-i : tie.Need-cast-i
 cast-i c = search needs
 
--- src/line.rt:163:9
 returns-2 : tie.Need-returns-2
 returns-2 c = λ b s. rw (le-leb _ _ (c .before .before .before .if1 .left), s .memory, le-ltb _ _ (c .if2 .taken))
 
--- src/line.rt:166:9
 returns-3 : tie.Need-returns-3
 returns-3 c = λ b s. rw (le-leb _ _ (c .before .before .before .before .before .if1 .left), s .memory, lt-ltb _ _ (c .before .before .if2 .left), s .protect, le-ltb _ _ (c .if3 .taken))
 
--- src/line.rt:154:1
 returns-4 : tie.Need-returns-4
 returns-4 c = λ b s. rw (le-leb _ _ (c .before .before .before .before .before .if1 .left), s .memory, lt-ltb _ _ (c .before .before .if2 .left), s .protect, lt-ltb _ _ (c .if3 .left))
 

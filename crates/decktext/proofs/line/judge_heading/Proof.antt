@@ -1,19 +1,13 @@
 use borrow.Author.Needs.{needs}
 use Rattle.decktext.proofs.line.judge_heading.Statement.{statement}
 use Rattle.decktext.proofs.line.judge_heading.Tie as tie
-use Rattle.decktext.proofs.line.judge_heading.Reads as reads
-use Rattle.decktext.proofs.line.judge_heading.Lts as lts
-use Rattle.decktext.proofs.span.is_same.Reads as is-same-reads
 
--- src/line.rt:133:8
 is-same-requires : tie.Need-is-same-requires
 is-same-requires c κs = search needs
 
--- src/line.rt:130:1
 returns : tie.Need-returns
 returns c = rw (← c .before .is-same .ensures, c .if1 .taken)
 
--- src/line.rt:130:1
 returns-2 : tie.Need-returns-2
 returns-2 c = rw (← c .before .is-same .ensures, c .if1 .left)
 

@@ -1,30 +1,22 @@
 use Rattle.decktext.proofs.Names.{code-long, code-by-key}
 use Rattle.decktext.specs.Key.{codeByKey}
-use mathlib.Core.Path.{_≡_, refl, sym, ap, _∙_}
+use mathlib.Core.Path.{sym, ap, _∙_}
 use native.Mathlib.Omega.{arith}
 use borrow.Author.Needs.{needs}
 use Rattle.decktext.proofs.mnemonic.code.Statement.{statement}
 use Rattle.decktext.proofs.mnemonic.code.Tie as tie
-use Rattle.decktext.proofs.mnemonic.code.Reads as reads
-use Rattle.decktext.proofs.mnemonic.code.Lts as lts
-use Rattle.decktext.proofs.mnemonic.key.Reads as key-reads
-use Rattle.decktext.proofs.mnemonic.look_up.Reads as look-up-reads
 
--- src/mnemonic.rt:14:9
 returns : tie.Need-returns
 returns c = sym (code-long _ (c .if1 .taken))
 
--- src/mnemonic.rt:16:13
 key-requires : tie.Need-key-requires
 key-requires c κs = search needs
 
--- src/mnemonic.rt:16:5
 look-up-requires : tie.Need-look-up-requires
 look-up-requires c κs = search needs
 
--- src/mnemonic.rt:10:1
 returns-2 : tie.Need-returns-2
-returns-2 c = 
+returns-2 c =
     c .look-up .ensures
     ∙ ap codeByKey (c .before .key .ensures)
     ∙ sym (code-by-key (c .before .before .before .before .args .v .now) (λ i h. omega (arith, c .before .before .before .shared-slice-known .given i)) (c .before .before .if1 .left))

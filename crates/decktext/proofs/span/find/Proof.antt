@@ -1,12 +1,10 @@
 use native.Mathlib.Omega.{arith}
-use mathlib.Core.Path.{_≡_, refl, sym, ap, _∙_}
-use Prim.Native.Nat.{ℕ, suc, _+_, _-_, _*_, _^_, _≤_, _<_}
-use lib.ListN.{length, getD, drop, take, set}
+use mathlib.Core.Path.{_≡_}
+use Prim.Native.Nat.{ℕ, _-_, _≤_, _<_}
+use lib.ListN.{getD}
 use borrow.Author.Count.{below-more}
 use Rattle.decktext.proofs.span.find.Statement.{statement}
 use Rattle.decktext.proofs.span.find.Tie as tie
-use Rattle.decktext.proofs.span.find.Reads as reads
-use Rattle.decktext.proofs.span.find.Lts as lts
 
 abbrev Inv-loop : tie.InvT-loop
 Inv-loop text from end b i₀ i = (from ≤ i) × (i ≤ end) × ((k : ℕ) → k < i → from ≤ k → getD text k 0 ≡ b → ⊥)
@@ -14,31 +12,24 @@ Inv-loop text from end b i₀ i = (from ≤ i) × (i ≤ end) × ((k : ℕ) → 
 abbrev μ-loop : tie.MeasureT-loop
 μ-loop text from end b i₀ i = end - i
 
--- src/span.rt:14:5
 loop-holds : tie.Need-loop-holds Inv-loop μ-loop
 loop-holds c = (omega arith, omega arith, λ k h l e. omega arith)
 
--- src/span.rt:15:12
 shared-slice-read-if1 : tie.Need-shared-slice-read-if1 Inv-loop μ-loop
 shared-slice-read-if1 c = omega arith
 
--- src/span.rt:16:13
 returns : tie.Need-returns Inv-loop μ-loop
 returns c = record { low = c .before .before .before .loop .inv .0; high = c .before .before .before .loop .inv .1; before = c .before .before .before .loop .inv .2; found = λ h. c .if1 .taken }
 
--- src/span.rt:18:9
 add-i : tie.Need-add-i Inv-loop μ-loop
 add-i c = omega arith
 
--- src/span.rt:14:5
 loop-less : tie.Need-loop-less Inv-loop μ-loop
 loop-less c = omega arith
 
--- src/span.rt:14:5
 loop-again : tie.Need-loop-again Inv-loop μ-loop
 loop-again c = (omega arith, omega arith, below-more _ _ (c .before .before .before .loop .inv .2) (λ l. c .if1 .left))
 
--- src/span.rt:9:1
 returns-2 : tie.Need-returns-2 Inv-loop μ-loop
 returns-2 c = record { low = c .before .loop .inv .0; high = c .before .loop .inv .1; before = c .before .loop .inv .2; found = λ h. absurd (omega arith) }
 

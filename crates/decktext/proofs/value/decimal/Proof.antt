@@ -1,15 +1,11 @@
 use Rattle.decktext.proofs.Decimals.{Decimal, start, on, stop, end, end-large, plain-first, decimal-none, decimal-long, decimal-zero, decimal-leading}
 use Rattle.decktext.proofs.Digits.{within}
-use lib.ListN.{length, getD, drop, take, set}
-use Prim.Native.Nat.{ℕ, suc, _+_, _-_, _*_, _^_, _≤_, _<_}
-use mathlib.Core.Path.{_≡_, refl, sym, ap, _∙_}
+use lib.ListN.{length}
+use Prim.Native.Nat.{_-_}
 use native.Mathlib.Omega.{arith}
 use borrow.Author.Needs.{needs}
 use Rattle.decktext.proofs.value.decimal.Statement.{statement}
 use Rattle.decktext.proofs.value.decimal.Tie as tie
-use Rattle.decktext.proofs.value.decimal.Reads as reads
-use Rattle.decktext.proofs.value.decimal.Lts as lts
-use Rattle.decktext.proofs.digit.digit.Reads as digit-reads
 
 abbrev Inv-loop : tie.InvT-loop
 Inv-loop v n₀ i₀ n i = Decimal v n i
@@ -17,75 +13,57 @@ Inv-loop v n₀ i₀ n i = Decimal v n i
 abbrev μ-loop : tie.MeasureT-loop
 μ-loop v n₀ i₀ n i = length v - i
 
--- src/value.rt:16:9
 returns : tie.Need-returns Inv-loop μ-loop
 returns c = decimal-none _ (c .if1 .taken)
 
--- src/value.rt:19:9
 returns-2 : tie.Need-returns-2 Inv-loop μ-loop
 returns-2 c = decimal-long _ (c .if2 .taken)
 
--- src/value.rt:21:8
 shared-slice-read-if3 : tie.Need-shared-slice-read-if3 Inv-loop μ-loop
 shared-slice-read-if3 c = omega arith
 
--- src/value.rt:22:9
 returns-3 : tie.Need-returns-3 Inv-loop μ-loop
 returns-3 c = decimal-zero _ (c .if4 .taken) (c .before .if3 .taken)
 
--- src/value.rt:22:9
 returns-4 : tie.Need-returns-4 Inv-loop μ-loop
 returns-4 c = decimal-leading _ (c .before .before .before .before .if1 .left) (c .if4 .left) (c .before .if3 .taken)
 
--- src/value.rt:30:5
 loop-holds : tie.Need-loop-holds Inv-loop μ-loop
 loop-holds c = start (c .before .before .before .before .before .args .v .now)
 
--- src/value.rt:31:23
 shared-slice-read-digit : tie.Need-shared-slice-read-digit Inv-loop μ-loop
 shared-slice-read-digit c = omega arith
 
--- src/value.rt:31:13
 digit-requires : tie.Need-digit-requires Inv-loop μ-loop
 digit-requires c κs = search needs
 
--- src/value.rt:33:13
 returns-5 : tie.Need-returns-5 Inv-loop μ-loop
 returns-5 c = stop (c .before .before .before .before .loop .inv) (c .before .digit .result) (c .before .before .before .loop-test .taken) (c .before .digit .ensures) (c .if5 .taken)
 
--- src/value.rt:35:13
 mul-n : tie.Need-mul-n Inv-loop μ-loop
 mul-n c = let h = within 10 (c .before .before .before .before .loop .i) 5 (omega arith) (c .before .before .before .before .loop .inv .room) (omega arith) in omega arith
 
--- src/value.rt:35:22
 cast-n : tie.Need-cast-n Inv-loop μ-loop
 cast-n c = omega arith
 
--- src/value.rt:35:13
 add-n : tie.Need-add-n Inv-loop μ-loop
 add-n c = let h = within 10 (c .before .before .before .before .loop .i) 5 (omega arith) (c .before .before .before .before .loop .inv .room) (omega arith) in omega arith
 
--- src/value.rt:36:9
 add-i : tie.Need-add-i Inv-loop μ-loop
 add-i c = omega arith
 
--- src/value.rt:30:5
 loop-less : tie.Need-loop-less Inv-loop μ-loop
 loop-less c = omega arith
 
--- src/value.rt:30:5
 loop-again : tie.Need-loop-again Inv-loop μ-loop
 loop-again c = on (c .before .before .before .before .loop .inv) (c .before .digit .result) (c .before .before .before .loop-test .taken) (c .before .digit .ensures) (c .if5 .left)
 
--- src/value.rt:39:9
 returns-6 : tie.Need-returns-6 Inv-loop μ-loop
 returns-6 c = end-large (c .before .before .loop .inv) (c .before .loop-test .left) (plain-first (c .before .before .before .before .before .before .before .before .args .v .now) (c .before .before .before .before .before .before .if1 .left) (c .before .before .before .if3 .left)) (c .if6 .taken)
 
--- src/value.rt:41:15
 cast-t18 : tie.Need-cast-t18 Inv-loop μ-loop
 cast-t18 c = omega arith
 
--- src/value.rt:12:1
 returns-7 : tie.Need-returns-7 Inv-loop μ-loop
 returns-7 c = end (c .before .before .loop .inv) (c .before .loop-test .left) (plain-first (c .before .before .before .before .before .before .before .before .args .v .now) (c .before .before .before .before .before .before .if1 .left) (c .before .before .before .if3 .left)) (c .if6 .left)
 

@@ -1,0 +1,54 @@
+-- What is proved of the reader, in the words of document 01, 'Deck text'. The proofs are in proofs/Theorems.antt.
+use Prim.Native.Nat.{ℕ, _+_, _≤_}
+use mathlib.Core.Path.{_≡_}
+use mathlib.Core.List.{List, [], _∷_, _++_}
+use lib.ListN.{length, getD}
+use Rattle.hexfloat.specs.Answer.{gives, stops}
+use Rattle.machine.specs.declared.order.Order.{Order}
+use Rattle.machine.specs.Order.{orderAt}
+use Rattle.decktext.specs.Text.{Line, ended, unended, linesOf}
+use Rattle.decktext.specs.Format.{Halfword}
+use Rattle.decktext.specs.Read.{Buffers, refused, taken, Wanted, heading, order, storage, halfword, Progress, start, Given, ordered, stored, lineRead, advanced, readText}
+
+-- each of these lines is ended, well formed and fits, and they take p to q
+abbrev pub Through : List Line → Progress → Progress → Type 0
+Through [] p q = p ≡ q
+Through (unended l ∷ ls) p q = ⊥
+Through (ended l ∷ ls) p q = (g : Given) × (lineRead p l ≡ gives g) × Through ls (advanced g p) q
+
+-- the first line of the rest of a text is faulty, with the number n: it is missing, unended, or doesn't read
+abbrev pub Missing : Wanted → Type 0
+Missing heading = Unit {0}
+Missing order = ⊥
+Missing storage = Unit {0}
+Missing halfword = ⊥
+
+abbrev pub Faulty : List Line → Progress → ℕ → Type 0
+Faulty [] p n = Missing (p .wanted) × (n ≡ 16)
+Faulty (unended l ∷ ls) p n = n ≡ 16
+Faulty (ended l ∷ ls) p n = lineRead p l ≡ stops n
+
+-- The line of a refusal is the first faulty one: every line before it is well formed and fits.
+pub record FirstFault (t : List ℕ) (b : Buffers) (n k : ℕ) : Type 0 where
+  pub before : List Line
+  pub rest : List Line
+  pub reached : Progress
+  pub text : linesOf t ≡ before ++ rest
+  pub number : k ≡ length before + 1
+  pub through : Through before (start b) reached
+  pub faulty : Faulty rest reached n
+
+-- What is accepted is written as the grammar says: of each line of the text, whatever lines come after it,
+-- the order's four cells stand at four times its place, which is two below its line number, and a memory line's word and protect byte at its `at`.
+pub record Written (t : List ℕ) (b : Buffers) : Type 0 where
+  pub order : (before after : List Line) (line : List ℕ) (p : Progress) (o : Order) → linesOf t ≡ before ++ (ended line ∷ after) → Through before (start b) p
+      → lineRead p line ≡ gives (ordered o) → (length before ≡ p .count + 1) × (orderAt (readText t b .after .cells) (p .count) ≡ o)
+  pub word : (before after : List Line) (line : List ℕ) (p : Progress) (h : Halfword) → linesOf t ≡ before ++ (ended line ∷ after) → Through before (start b) p
+      → lineRead p line ≡ gives (stored h) → getD (readText t b .after .memory) (h .at) 0 ≡ h .word
+  pub protect : (before after : List Line) (line : List ℕ) (p : Progress) (h : Halfword) → linesOf t ≡ before ++ (ended line ∷ after) → Through before (start b) p
+      → lineRead p line ≡ gives (stored h) → getD (readText t b .after .protect) (h .at) 0 ≡ h .protect
+
+-- The reader.
+pub record Reader : Type 0 where
+  pub refusal : (t : List ℕ) (b : Buffers) (n k : ℕ) → length t ≤ 32768 → readText t b .said ≡ refused n k → FirstFault t b n k
+  pub accepted : (t : List ℕ) (b : Buffers) (n : ℕ) → readText t b .said ≡ taken n → Written t b
