@@ -10,7 +10,7 @@ use Rattle.hexfloat.specs.Answer.{Answer, gives, stops}
 use Rattle.machine.specs.Says.{provided, andThen}
 use Rattle.machine.proofs.Answers.{gives-inj, never}
 use Rattle.decktext.specs.Text.{same}
-use Rattle.decktext.specs.Value.{plain, allDigits, numberFrom, allHexadecimal, codeAmong, codeOf, decimalOf, protectOf, wordOf, mnemonics}
+use Rattle.decktext.specs.Value.{all, isDigit, isHexadecimal, plain, numberFrom, codeAmong, codeOf, decimalOf, protectOf, wordOf, mnemonics}
 
 -- a stop, if it is one, is a 16
 abbrev pub Only16 : {A : Type 0} → Answer A → Type 0
@@ -48,7 +48,7 @@ only-code v = only-among mnemonics 1 v
 
 pub only-decimal : (v : List ℕ) → Only16 (decimalOf v)
 unfolding decimalOf
-only-decimal v = only-provided (plain v && (allDigits v && leb (numberFrom 0 v) 65535)) (gives (numberFrom 0 v)) tt
+only-decimal v = only-provided (plain v && (all isDigit v && leb (numberFrom 10 0 v) 65535)) (gives (numberFrom 10 0 v)) tt
 
 pub only-protect : (v : List ℕ) → Only16 (protectOf v)
 unfolding protectOf
@@ -66,4 +66,4 @@ protect-small v x h = small-by (same v (48 ∷ [])) (same v (49 ∷ [])) x h
 
 pub only-word : (v : List ℕ) → Only16 (wordOf v)
 unfolding wordOf
-only-word v = only-provided (eqb (length v) 4 && allHexadecimal v) (gives _) tt
+only-word v = only-provided (eqb (length v) 4 && all isHexadecimal v) (gives _) tt

@@ -1,9 +1,8 @@
 -- The laws of the reader.
-mod Digits
 mod Same
+mod Digits
 mod Names
 mod Decimals
-mod Words
 mod Lines
 mod Answers
 mod Parsed

@@ -45,6 +45,14 @@ skip (unended l ∷ before) rest p q k h = absurd h
 skip (ended l ∷ before) rest p q k h =
     rw (h .1) (skip before rest (advanced (h .0) p) q (k + 1) (h .2) ∙ ap (λ (n : ℕ). linesRead rest q n) (omega arith))
 
+-- the first of some lines that go through do so themselves
+pub front : (before after : List Line) (p q : Progress) → Through (before ++ after) p q → (r : Progress) × Through before p r
+front [] after p q h = (p, refl)
+front (unended l ∷ before) after p q h = absurd h
+front (ended l ∷ before) after p q h =
+    let s = front before after (advanced (h .0) p) q (h .2) in
+    (s .0, (h .0, h .1, s .1))
+
 -- ---- the first fault
 
 pub record Fault (ls : List Line) (p : Progress) (k n j : ℕ) : Type 0 where

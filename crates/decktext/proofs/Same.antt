@@ -3,14 +3,15 @@ use mathlib.Core.Path.{_≡_, refl, ap}
 use mathlib.Core.Bool.{Bool, true, false, _&&_}
 use mathlib.Core.List.{List, [], _∷_}
 use Prim.Native.Nat.{ℕ, _+_, _≤_, _<_}
+use native.Mathlib.Numerals.{add-one}
 use native.Mathlib.Omega.{arith}
+use lib.Seq.{drop-cons}
 use lib.ListN.{length, getD, drop, drop-of-length-le}
 use lib.Dec.{eqb}
 use borrow.Author.Tests.{eqb-true, eq-eqb}
 use Rattle.hexfloat.specs.Answer.{stops}
 use Rattle.decktext.specs.Text.{same}
 use Rattle.decktext.specs.Value.{protectOf}
-use Rattle.decktext.proofs.Digits.{next}
 
 pub same-refl : (v : List ℕ) → same v v ≡ true
 unfolding same
@@ -42,6 +43,10 @@ same-false v w h = same-false-by v w (same v w) refl h
 
 pub same-length : (v w : List ℕ) → (length v ≡ length w → ⊥) → same v w ≡ false
 same-length v w h = same-false v w (λ e. h (ap length e))
+
+-- the next element of a list
+pub next : (v : List ℕ) (i : ℕ) → i < length v → drop i v ≡ getD v i 0 ∷ drop (i + 1) v
+next v i h = rw (add-one, drop-cons v i 0)
 
 pub same-next : (v w : List ℕ) (i : ℕ) → i < length v → i < length w → same (drop i v) (drop i w) ≡ (eqb (getD v i 0) (getD w i 0) && same (drop (i + 1) v) (drop (i + 1) w))
 unfolding same

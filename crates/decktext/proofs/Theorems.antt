@@ -12,7 +12,7 @@ use Rattle.decktext.specs.Read.{Buffers, refused, taken, Outcome, Progre
 use Rattle.decktext.specs.Theorems.{Through, FirstFault, Written, Reader}
 use Rattle.decktext.proofs.Forms.{sound-fits}
 use Rattle.decktext.proofs.Laws.{accepted}
-use Rattle.decktext.proofs.Passing.{through, skip, first-fault, order-put, all-kept, Kept, line-sound, Counted, all-counted, order-wanted}
+use Rattle.decktext.proofs.Passing.{front, through, skip, first-fault, order-put, all-kept, Kept, line-sound, Counted, all-counted, order-wanted}
 use Rattle.decktext.proofs.Readings.{apart, within-limit}
 use Rattle.decktext.proofs.Walking.{all}
 
@@ -56,6 +56,9 @@ module _ (t : List ℕ) (b : Buffers) (n : ℕ) (taken-in : readText t b .said �
 written : (t : List ℕ) (b : Buffers) (n : ℕ) → readText t b .said ≡ taken n → Written t b
 unfolding advanced bufferedWith
 written t b n h = record {
+  through = λ before after cut.
+      let a = accepted t b n h in
+      front before after (start b) (a .given) (rw cut at (through (linesOf t) (start b) (a .given) 1 (a .lines)));
   order = λ before after line p o cut gone given.
       let s = line-sound p line (ordered o) given in
       let k = rest-kept t b n h before after line p cut gone (ordered o) given in

@@ -35,8 +35,8 @@ either-way : (writes : Bool) (b : Buffers) → b ≡ cond writes b b
 either-way true b = refl
 either-way false b = refl
 
-pub start : {t : List ℕ} {b : Buffers} {s : Sizes} {writes : Bool} {p : Place} → Sized b s → progressOf p b ≡ begun b → p .count ≡ 0 → Walking t b s writes p 0 1 b
-start {t} {b} {s} {writes} {p} z e n = record {
+pub start : {t : List ℕ} {b : Buffers} {s : Sizes} {writes : Bool} {p : Place} → Sized b s → progressOf p b ≡ begun b → Walking t b s writes p 0 1 b
+start {t} {b} {s} {writes} {p} z e = record {
   held = b;
   sized = z;
   first = z;
@@ -44,7 +44,7 @@ start {t} {b} {s} {writes} {p} z e n = record {
   present = either-way writes b;
   reach = zero-le;
   lines = omega arith;
-  orders = omega arith;
+  orders = let n : p .count ≡ 0 = ap (λ (q : Progress). q .count) e in omega arith;
 }
 
 -- ---- a line

@@ -38,9 +38,10 @@ pub record FirstFault (t : List ℕ) (b : Buffers) (n k : ℕ) : Type 0 where
   pub through : Through before (start b) reached
   pub faulty : Faulty rest reached n
 
--- What is accepted is written as the grammar says: of each line of the text, whatever lines come after it,
+-- What is accepted is written as the grammar says. All its lines go through, and of each of them, whatever lines come after it,
 -- the order's four cells stand at four times its place, which is two below its line number, and a memory line's word and protect byte at its `at`.
 pub record Written (t : List ℕ) (b : Buffers) : Type 0 where
+  pub through : (before after : List Line) → linesOf t ≡ before ++ after → (p : Progress) × Through before (start b) p
   pub order : (before after : List Line) (line : List ℕ) (p : Progress) (o : Order) → linesOf t ≡ before ++ (ended line ∷ after) → Through before (start b) p
       → lineRead p line ≡ gives (ordered o) → (length before ≡ p .count + 1) × (orderAt (readText t b .after .cells) (p .count) ≡ o)
   pub word : (before after : List Line) (line : List ℕ) (p : Progress) (h : Halfword) → linesOf t ≡ before ++ (ended line ∷ after) → Through before (start b) p

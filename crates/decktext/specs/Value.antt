@@ -14,17 +14,29 @@ abbrev pub saysValue : Value → Answer ℕ
 saysValue (Value.Of v) = gives v
 saysValue Value.Malformed = stops 16
 
+-- every byte passes
+unfoldable pub all : (ℕ → Bool) → List ℕ → Bool
+all f [] = true
+all f (b ∷ t) = f b && all f t
+
 abbrev pub isDigit : ℕ → Bool
 isDigit b = leb 48 b && leb b 57
 
-unfoldable pub allDigits : List ℕ → Bool
-allDigits [] = true
-allDigits (b ∷ t) = isDigit b && allDigits t
+-- 0-9 A-F
+abbrev pub isHexadecimal : ℕ → Bool
+isHexadecimal b = isDigit b || (leb 65 b && leb b 70)
 
--- the number of some decimal digits, after n
-unfoldable pub numberFrom : ℕ → List ℕ → ℕ
-numberFrom n [] = n
-numberFrom n (b ∷ t) = numberFrom (n * 10 + (b - 48)) t
+abbrev pub digitOf : ℕ → ℕ
+digitOf b = cond (leb b 57) (b - 48) (b - 55)
+
+-- the value of a digit, or 16 for a byte that is none
+abbrev pub markedDigit : ℕ → ℕ
+markedDigit b = cond (isHexadecimal b) (digitOf b) 16
+
+-- the number of some digits in a base, after n
+unfoldable pub numberFrom : ℕ → ℕ → List ℕ → ℕ
+numberFrom base n [] = n
+numberFrom base n (b ∷ t) = numberFrom base (n * base + digitOf b) t
 
 -- at least one digit, and no zero before others
 abbrev pub plain : List ℕ → Bool
@@ -34,35 +46,15 @@ plain (b ∷ c ∷ t) = not (eqb b 48)
 
 -- a decimal has no leading zero and is at most 65,535
 unfoldable pub decimalOf : List ℕ → Answer ℕ
-decimalOf v = provided (plain v && (allDigits v && leb (numberFrom 0 v) 65535)) 16 (gives (numberFrom 0 v))
+decimalOf v = provided (plain v && (all isDigit v && leb (numberFrom 10 0 v) 65535)) 16 (gives (numberFrom 10 0 v))
 
 -- protect is 0 or 1
 unfoldable pub protectOf : List ℕ → Answer ℕ
 protectOf v = cond (same v (48 ∷ [])) (gives 0) (cond (same v (49 ∷ [])) (gives 1) (stops 16))
 
--- 0-9 A-F
-abbrev pub isHexadecimal : ℕ → Bool
-isHexadecimal b = isDigit b || (leb 65 b && leb b 70)
-
-unfoldable pub allHexadecimal : List ℕ → Bool
-allHexadecimal [] = true
-allHexadecimal (b ∷ t) = isHexadecimal b && allHexadecimal t
-
-abbrev pub digitOf : ℕ → ℕ
-digitOf b = cond (leb b 57) (b - 48) (b - 55)
-
--- the value of a digit, or 16 for a byte that is none
-abbrev pub markedDigit : ℕ → ℕ
-markedDigit b = cond (isHexadecimal b) (digitOf b) 16
-
--- the number of some hexadecimal digits, after n
-unfoldable pub wordFrom : ℕ → List ℕ → ℕ
-wordFrom n [] = n
-wordFrom n (b ∷ t) = wordFrom (n * 16 + digitOf b) t
-
 -- a word has four digits
 unfoldable pub wordOf : List ℕ → Answer ℕ
-wordOf v = provided (eqb (length v) 4 && allHexadecimal v) 16 (gives (wordFrom 0 v))
+wordOf v = provided (eqb (length v) 4 && all isHexadecimal v) 16 (gives (numberFrom 16 0 v))
 
 -- the mnemonics of the table, in the order of their codes from 1 on
 abbrev pub mnemonics : List (List ℕ)

@@ -2,9 +2,9 @@
 use Prim.Native.Nat.{ℕ, _+_, _*_, _≤_, _<_}
 use mathlib.Core.Path.{_≡_}
 use mathlib.Core.List.{List, []}
-use mathlib.Core.Bool.{Bool, true, false, cond}
+use mathlib.Core.Bool.{Bool, true, false, cond, _&&_}
 use lib.ListN.{length, getD}
-use lib.Dec.{eqb}
+use lib.Dec.{eqb, leb, ltb}
 use Rattle.hexfloat.specs.Answer.{Answer, gives, stops}
 use Rattle.machine.specs.declared.order.Order.{Order}
 use Rattle.machine.specs.Says.{provided, andThen}
@@ -16,7 +16,7 @@ use Rattle.decktext.specs.declared.line.Progress.{Progress as Place}
 use Rattle.decktext.specs.declared.line.Sizes.{Sizes}
 use Rattle.decktext.specs.declared.line.Judged.{Judged}
 use Rattle.decktext.specs.Text.{same, linesOf}
-use Rattle.decktext.specs.Value.{codeOf, decimalOf, protectOf, wordOf}
+use Rattle.decktext.specs.Value.{all, markedDigit, numberFrom, codeOf, decimalOf, protectOf, wordOf}
 use Rattle.decktext.specs.Format.{deckHeading, storageHeading, legal, Halfword}
 use Rattle.decktext.specs.Read.{Buffers, Said, taken, refused, saysReading, Wanted, heading, order, storage, halfword, Progress, start, Given, headed, ordered, parted, stored, orderFits, halfwordFits, Read, whole, faulty, linesRead}
 
@@ -26,6 +26,13 @@ pub record Stretch (t : List ℕ) (from end b r : ℕ) : Type 0 where
   pub high : r ≤ end
   pub before : (k : ℕ) → k < r → from ≤ k → getD t k 0 ≡ b → ⊥
   pub found : r < end → getD t r 0 ≡ b
+
+-- the number of some digits in a base, at most 65,535
+abbrev pub digitIn : ℕ → ℕ → Bool
+digitIn base b = ltb (markedDigit b) base
+
+unfoldable pub numberIn : ℕ → List ℕ → Answer ℕ
+numberIn base v = provided (all (digitIn base) v && leb (numberFrom base 0 v) 65535) 16 (gives (numberFrom base 0 v))
 
 abbrev pub wantedOf : WantedLine → Wanted
 wantedOf WantedLine.Heading = heading

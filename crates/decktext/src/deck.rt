@@ -2,10 +2,11 @@
 use crate::given::store;
 use crate::line::Judged;
 use crate::line::Progress;
-use crate::line::Sizes;
 use crate::line::Wanted;
 use crate::line::advance;
 use crate::line::judge;
+use crate::line::sizes_of;
+use crate::line::start;
 use crate::line::value;
 use crate::line::values_wanted;
 use crate::span::find;
@@ -47,16 +48,8 @@ fn walk(
     requires { ⌜ length (now text) ≤ 32768 ⌝ }
     ensures { λ r. ⌜ Walked (now (text .entry)) writes (buffers (now (cells .entry)) (now (memory .entry)) (now (protect .entry))) (buffers (now (cells .exit)) (now (memory .exit)) (now (protect .exit))) r ⌝ }
 {
-    let sizes = Sizes {
-        cells: cells.len(),
-        memory: memory.len(),
-        protect: protect.len(),
-    };
-    let mut p = Progress {
-        wanted: Wanted::Heading,
-        count: 0,
-        least: 0,
-    };
+    let sizes = sizes_of(cells.len(), memory.len(), protect.len());
+    let mut p = start();
     let mut at = 0;
     let mut line: u32 = 1;
     let mut fault: u8 = 0;

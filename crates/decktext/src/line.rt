@@ -18,7 +18,7 @@ ghost use Rattle.decktext.specs.Text.{same};
 ghost use lib.Dec.{eqb};
 ghost use Rattle.decktext.specs.Value.{saysValue, codeOf, decimalOf, protectOf, wordOf};
 ghost use Rattle.decktext.specs.Format.{legal};
-ghost use Rattle.decktext.specs.Read.{Buffers, headed, orderFits, halfwordFits, afterHeading, bufferedWith, advanced};
+ghost use Rattle.decktext.specs.Read.{Buffers, start as begun, headed, orderFits, halfwordFits, afterHeading, bufferedWith, advanced};
 ghost use Rattle.decktext.specs.Walk.{wantedOf, halfwordAs, givenOf, saysJudged, progressOf, Sized, valueCount, valueAs, inPlace, judgedAs};
 
 pub enum Wanted {
@@ -39,6 +39,27 @@ pub struct Sizes {
     pub cells: usize,
     pub memory: usize,
     pub protect: usize,
+}
+
+pub fn sizes_of(cells: usize, memory: usize, protect: usize) -> Sizes
+    ensures { λ r. ⌜ (r .cells ≡ cells) × (r .memory ≡ memory) × (r .protect ≡ protect) ⌝ }
+{
+    Sizes {
+        cells,
+        memory,
+        protect,
+    }
+}
+
+// Before the first line.
+pub fn start() -> Progress
+    ensures { λ r. ⌜ ((b : Buffers) → progressOf r b ≡ begun b) ⌝ }
+{
+    Progress {
+        wanted: Wanted::Heading,
+        count: 0,
+        least: 0,
+    }
 }
 
 pub enum Judged {

@@ -1,7 +1,10 @@
 // Values of deck text: each is a number, or malformed.
 use crate::digit::digit;
 ghost use mathlib.Core.Path.{_≡_};
+ghost use Prim.Native.Nat.{_≤_, _<_};
+ghost use lib.ListN.{length};
 ghost use Rattle.decktext.specs.Value.{saysValue, decimalOf, protectOf, wordOf};
+ghost use Rattle.decktext.specs.Walk.{numberIn};
 
 pub enum Value {
     Of(u16),
@@ -25,20 +28,7 @@ pub fn decimal(v: &[u8]) -> Value
             Value::Malformed
         };
     }
-    let mut n: u32 = 0;
-    let mut i = 0;
-    while i < v.len() {
-        let d = digit(v[i]);
-        if 9 < d {
-            return Value::Malformed;
-        }
-        n = n * 10 + d as u32;
-        i += 1;
-    }
-    if 65535 < n {
-        return Value::Malformed;
-    }
-    Value::Of(n as u16)
+    number(v, 10)
 }
 
 pub fn protect(v: &[u8]) -> Value
@@ -62,15 +52,26 @@ pub fn word(v: &[u8]) -> Value
     if v.len() != 4 {
         return Value::Malformed;
     }
+    number(v, 16)
+}
+
+// The number of some digits in a base.
+fn number(v: &[u8], base: u32) -> Value
+    requires { ⌜ (length (now v) ≤ 5) × (0 < base) × (base ≤ 16) ⌝ }
+    ensures { λ r. ⌜ saysValue r ≡ numberIn base (now (v .entry)) ⌝ }
+{
     let mut n: u32 = 0;
     let mut i = 0;
-    while i < 4 {
-        let d = digit(v[i]);
-        if 15 < d {
+    while i < v.len() {
+        let d = digit(v[i]) as u32;
+        if base <= d {
             return Value::Malformed;
         }
-        n = n * 16 + d as u32;
+        n = n * base + d;
         i += 1;
+    }
+    if 65535 < n {
+        return Value::Malformed;
     }
     Value::Of(n as u16)
 }

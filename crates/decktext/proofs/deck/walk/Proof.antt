@@ -2,7 +2,8 @@ use Rattle.decktext.proofs.Walking.{all, Walking, start, sizes, storabl
 use Rattle.decktext.proofs.Parsed.{Taking, start as begin, on as on-value, bad}
 use Rattle.decktext.proofs.Forms.{placed-at, values-at, few, judged, faulty-line, real-fault, by-number}
 use Rattle.decktext.specs.Walk.{wantedOf, givenOf, saysJudged, progressOf, valueCount, valueAs}
-use Rattle.decktext.specs.Read.{buffers, faulty, lineRead}
+use mathlib.Core.List.{List}
+use Rattle.decktext.specs.Read.{Buffers, Wanted, Progress, buffers, faulty, lineRead}
 use Rattle.decktext.specs.Value.{saysValue}
 use Rattle.hexfloat.specs.Answer.{gives, stops}
 use mathlib.Core.Logic.{⊎-elim}
@@ -27,44 +28,64 @@ Inv-lines text cells₀ memory₀ protect₀ writes sizes p₀ at₀ line₀ fau
 abbrev μ-lines : tie.MeasureT-lines
 μ-lines text cells₀ memory₀ protect₀ writes sizes p₀ at₀ line₀ fault₀ cells memory protect p at line fault = length text - at
 
+-- at the head of the walk: the text, the buffers as they were lent and as they are, and the progress that the definition has
+abbrev text : tie.At-lines Inv-loop μ-loop Inv-lines μ-lines → List ℕ
+text c = c .before .before .before .before .before .before .before .args .text .now
+
+abbrev lent : tie.At-lines Inv-loop μ-loop Inv-lines μ-lines → Buffers
+lent c = buffers (c .before .before .before .before .before .before .before .args .cells .now) (c .before .before .before .before .before .before .before .args .memory .now) (c .before .before .before .before .before .before .before .args .protect .now)
+
+abbrev present : tie.At-lines Inv-loop μ-loop Inv-lines μ-lines → Buffers
+present c = buffers (c .lines .cells) (c .lines .memory) (c .lines .protect)
+
+abbrev progress : tie.At-lines Inv-loop μ-loop Inv-lines μ-lines → Progress
+progress c = progressOf (c .lines .p) (c .lines .inv .1 .held)
+
+abbrev wanted-at : tie.At-lines Inv-loop μ-loop Inv-lines μ-lines → Wanted
+wanted-at c = wantedOf (c .lines .p .wanted)
+
+-- the line that ends where the LF was found
+abbrev line-at : tie.After-find Inv-loop μ-loop Inv-lines μ-lines → List ℕ
+line-at c = part (c .before .before .lines .at) (c .find .result) (text (c .before .before))
+
 -- the line ends within the text
-ended : (c : tie.Else1 Inv-loop μ-loop Inv-lines μ-lines) → c .before .find .result < length (c .before .before .before .before .before .before .before .before .args .text .now)
+ended : (c : tie.Else1 Inv-loop μ-loop Inv-lines μ-lines) → c .before .find .result < length (text (c .before .before .before))
 ended c = let no = c .if1 .left in omega (arith, c .before .find .ensures .high)
 
 -- the count of values, by the line's bytes
-counted : (c : tie.After-values-wanted Inv-loop μ-loop Inv-lines μ-lines) → c .values-wanted .result ≡ valueCount (wantedOf (c .before .before .before .before .lines .p .wanted)) (length (part (c .before .before .before .before .lines .at) (c .before .before .find .result) (c .before .before .before .before .before .before .before .before .before .args .text .now)))
-counted c = c .values-wanted .ensures ∙ ap (λ (n : ℕ). valueCount (wantedOf (c .before .before .before .before .lines .p .wanted)) n) (sym (length-part (c .before .before .before .before .lines .at) (c .before .before .find .result) (c .before .before .before .before .before .before .before .before .before .args .text .now) (c .before .before .find .ensures .low) (c .before .before .find .ensures .high)))
+counted : (c : tie.After-values-wanted Inv-loop μ-loop Inv-lines μ-lines) → c .values-wanted .result ≡ valueCount (wanted-at (c .before .before .before .before)) (length (line-at (c .before .before)))
+counted c = c .values-wanted .ensures ∙ ap (λ (n : ℕ). valueCount (wanted-at (c .before .before .before .before)) n) (sym (length-part (c .before .before .before .before .lines .at) (c .before .before .find .result) (text (c .before .before .before .before)) (c .before .before .find .ensures .low) (c .before .before .find .ensures .high)))
 
 -- what the line is judged to give is what the definition reads
-answer : (c : tie.After-judge Inv-loop μ-loop Inv-lines μ-lines) → lineRead (progressOf (c .before .before .before .before .before .before .before .before .lines .p) (c .before .before .before .before .before .before .before .before .lines .inv .1 .held)) (part (c .before .before .before .before .before .before .before .before .lines .at) (c .before .before .before .before .before .before .find .result) (c .before .before .before .before .before .before .before .before .before .before .before .before .before .args .text .now)) ≡ saysJudged (c .judge .result)
+answer : (c : tie.After-judge Inv-loop μ-loop Inv-lines μ-lines) → lineRead (progress (c .before .before .before .before .before .before .before .before)) (line-at (c .before .before .before .before .before .before)) ≡ saysJudged (c .judge .result)
 unfolding lineRead
 answer c =
-    judged (wantedOf (c .before .before .before .before .before .before .before .before .lines .p .wanted)) (progressOf (c .before .before .before .before .before .before .before .before .lines .p) (c .before .before .before .before .before .before .before .before .lines .inv .1 .held)) (part (c .before .before .before .before .before .before .before .before .lines .at) (c .before .before .before .before .before .before .find .result) (c .before .before .before .before .before .before .before .before .before .before .before .before .before .args .text .now)) (c .before .before .before .loop .values) (c .before .before .before .loop .inv .1 .size)
-    (values-at (wantedOf (c .before .before .before .before .before .before .before .before .lines .p .wanted)) (part (c .before .before .before .before .before .before .before .before .lines .at) (c .before .before .before .before .before .before .find .result) (c .before .before .before .before .before .before .before .before .before .before .before .before .before .args .text .now)) (c .before .before .before .before .values-wanted .result) (c .before .before .before .loop .values) (counted (c .before .before .before .before))
+    judged (wanted-at (c .before .before .before .before .before .before .before .before)) (progress (c .before .before .before .before .before .before .before .before)) (line-at (c .before .before .before .before .before .before)) (c .before .before .before .loop .values) (c .before .before .before .loop .inv .1 .size)
+    (values-at (wanted-at (c .before .before .before .before .before .before .before .before)) (line-at (c .before .before .before .before .before .before)) (c .before .before .before .before .values-wanted .result) (c .before .before .before .loop .values) (counted (c .before .before .before .before))
     (λ h. c .before .before .before .loop .inv .1 .taken h (omega (arith, c .before .before .before .loop .inv .1 .within, c .before .before .loop-test .left))))
     ∙ sym (c .judge .ensures (c .before .before .before .before .before .before .before .before .lines .inv .1 .held) (c .before .before .before .before .before .before .before .before .lines .inv .1 .sized))
 
 -- a value that is none
-bad-value : (c : tie.After-enum-told Inv-loop μ-loop Inv-lines μ-lines) → all (c .before .before .before .before .before .before .before .before .before .before .before .before .before .before .before .before .args .text .now) (buffers (c .before .before .before .before .before .before .before .before .before .before .before .before .before .before .before .before .args .cells .now) (c .before .before .before .before .before .before .before .before .before .before .before .before .before .before .before .before .args .memory .now) (c .before .before .before .before .before .before .before .before .before .before .before .before .before .before .before .before .args .protect .now)) ≡ faulty 16 (c .before .before .before .before .before .before .before .before .before .before .before .lines .line)
+bad-value : (c : tie.After-enum-told Inv-loop μ-loop Inv-lines μ-lines) → all (text (c .before .before .before .before .before .before .before .before .before .before .before)) (lent (c .before .before .before .before .before .before .before .before .before .before .before)) ≡ faulty 16 (c .before .before .before .before .before .before .before .before .before .before .before .lines .line)
 unfolding lineRead
 bad-value c =
     stopped (c .before .before .before .before .before .before .before .before .before .before .before .lines .inv .1) (c .before .before .before .before .before .before .before .before .before .find .ensures) (ended (c .before .before .before .before .before .before .before .before)) 16
-    (faulty-line (wantedOf (c .before .before .before .before .before .before .before .before .before .before .before .lines .p .wanted)) (progressOf (c .before .before .before .before .before .before .before .before .before .before .before .lines .p) (c .before .before .before .before .before .before .before .before .before .before .before .lines .inv .1 .held)) (part (c .before .before .before .before .before .before .before .before .before .before .before .lines .at) (c .before .before .before .before .before .before .before .before .before .find .result) (c .before .before .before .before .before .before .before .before .before .before .before .before .before .before .before .before .args .text .now)) (rw (← counted (c .before .before .before .before .before .before .before)) (omega (arith, c .before .before .before .before .before .loop-test .taken)))
+    (faulty-line (wanted-at (c .before .before .before .before .before .before .before .before .before .before .before)) (progress (c .before .before .before .before .before .before .before .before .before .before .before)) (line-at (c .before .before .before .before .before .before .before .before .before)) (rw (← counted (c .before .before .before .before .before .before .before)) (omega (arith, c .before .before .before .before .before .loop-test .taken)))
     (bad (c .before .before .before .before .before .before .loop .inv .1) (c .before .before .before .before .before .loop-test .taken) (c .before .before .before .before .find2 .ensures) (c .before .before .before .before .before .before .before .before .before .find .ensures .high) (sym (c .before .before .value .ensures) ∙ ap saysValue (c .enum-told .given .1))))
 
 -- a line that is of another form, or doesn't fit
 numbered : (c : tie.After-fault-of Inv-loop μ-loop Inv-lines μ-lines) → saysJudged (c .before .before .before .judge .result) ≡ stops (c .fault-of .result)
 numbered c = by-number _ _ _ (c .before .enum-told2 .given .1) (c .fault-of .ensures)
 
-bad-line : (c : tie.After-fault-of Inv-loop μ-loop Inv-lines μ-lines) → all (c .before .before .before .before .before .before .before .before .before .before .before .before .before .before .before .before .args .text .now) (buffers (c .before .before .before .before .before .before .before .before .before .before .before .before .before .before .before .before .args .cells .now) (c .before .before .before .before .before .before .before .before .before .before .before .before .before .before .before .before .args .memory .now) (c .before .before .before .before .before .before .before .before .before .before .before .before .before .before .before .before .args .protect .now)) ≡ faulty (c .fault-of .result) (c .before .before .before .before .before .before .before .before .before .before .before .lines .line)
+bad-line : (c : tie.After-fault-of Inv-loop μ-loop Inv-lines μ-lines) → all (text (c .before .before .before .before .before .before .before .before .before .before .before)) (lent (c .before .before .before .before .before .before .before .before .before .before .before)) ≡ faulty (c .fault-of .result) (c .before .before .before .before .before .before .before .before .before .before .before .lines .line)
 bad-line c = stopped (c .before .before .before .before .before .before .before .before .before .before .before .lines .inv .1) (c .before .before .before .before .before .before .before .before .before .find .ensures) (ended (c .before .before .before .before .before .before .before .before)) (c .fault-of .result) (answer (c .before .before .before) ∙ numbered c)
 
 -- what a line gives
-given : (c : tie.After-known-told2 Inv-loop μ-loop Inv-lines μ-lines) → lineRead (progressOf (c .before .before .before .before .before .before .before .before .before .before .before .lines .p) (c .before .before .before .before .before .before .before .before .before .before .before .lines .inv .1 .held)) (part (c .before .before .before .before .before .before .before .before .before .before .before .lines .at) (c .before .before .before .before .before .before .before .before .before .find .result) (c .before .before .before .before .before .before .before .before .before .before .before .before .before .before .before .before .args .text .now)) ≡ gives (givenOf (c .before .judged .given .0 .0))
+given : (c : tie.After-known-told2 Inv-loop μ-loop Inv-lines μ-lines) → lineRead (progress (c .before .before .before .before .before .before .before .before .before .before .before)) (line-at (c .before .before .before .before .before .before .before .before .before)) ≡ gives (givenOf (c .before .judged .given .0 .0))
 given c = answer (c .before .before .before) ∙ ap saysJudged (c .before .judged .given .1)
 
 -- the four ways out of the walk
-left : (c : tie.Left-lines Inv-loop μ-loop Inv-lines μ-lines) → Left (c .before .before .before .before .before .before .args .text .now) (buffers (c .before .before .before .before .before .before .args .cells .now) (c .before .before .before .before .before .before .args .memory .now) (c .before .before .before .before .before .before .args .protect .now)) (c .before .before .before .before .before .before .args .writes) (c .before .lines .p) (c .lines-test .fault) (c .before .lines .line) (buffers (c .before .lines .cells) (c .before .lines .memory) (c .before .lines .protect))
+left : (c : tie.Left-lines Inv-loop μ-loop Inv-lines μ-lines) → Left (text (c .before)) (lent (c .before)) (c .before .before .before .before .before .before .before .before .args .writes) (c .before .lines .p) (c .lines-test .fault) (c .before .lines .line) (present (c .before))
 left c =
     ⊎-elim
     (λ w. at-end (c .before .lines .inv .1) (w .0 .left) (c .lines-test .fault) (w .1 ∙ c .before .lines .inv .0))
@@ -76,11 +97,17 @@ left c =
     at-fault (c .before .lines .inv .1) (c .lines-test .fault) (λ z. let e = w .11 in omega arith) (rw (w .11) (bad-value d)))
     (λ w.
     let d : tie.After-fault-of Inv-loop μ-loop Inv-lines μ-lines = record { before = record { before = record { before = record { before = record { before = record { before = record { before = record { before = record { before = record { before = record { before = c .before; lines-test = w .0 }; find = w .1 }; if1 = w .2 }; values-wanted = w .3 }; loop = w .4 }; loop-test = w .5 }; judge-arg = w .6 }; judge = w .7 }; match2 = w .8 }; enum-told2 = w .9 }; fault-of = w .10 } in
-    at-fault (c .before .lines .inv .1) (c .lines-test .fault) (λ z. real-fault (wantedOf (c .before .lines .p .wanted)) (progressOf (c .before .lines .p) (c .before .lines .inv .1 .held)) (part (c .before .lines .at) (w .1 .result) (c .before .before .before .before .before .before .args .text .now)) (w .4 .values) (sym (numbered d) ∙ w .7 .ensures (c .before .lines .inv .1 .held) (c .before .lines .inv .1 .sized)) (sym (w .11) ∙ z)) (rw (w .11) (bad-line d)))))
+    at-fault (c .before .lines .inv .1) (c .lines-test .fault) (λ z. real-fault (wanted-at (c .before)) (progress (c .before)) (part (c .before .lines .at) (w .1 .result) (text (c .before))) (w .4 .values) (sym (numbered d) ∙ w .7 .ensures (c .before .lines .inv .1 .held) (c .before .lines .inv .1 .sized)) (sym (w .11) ∙ z)) (rw (w .11) (bad-line d)))))
     (c .lines-test .came)
 
+sizes-of-requires : tie.Need-sizes-of-requires Inv-loop μ-loop Inv-lines μ-lines
+sizes-of-requires c κs = search needs
+
+start-requires : tie.Need-start-requires Inv-loop μ-loop Inv-lines μ-lines
+start-requires c κs = search needs
+
 lines-holds : tie.Need-lines-holds Inv-loop μ-loop Inv-lines μ-lines
-lines-holds c = (refl, start (record { cells = refl; memory = refl; protect = refl }) refl refl)
+lines-holds c = (refl, start (record { cells = sym (c .before .sizes-of .ensures .0); memory = sym (c .before .sizes-of .ensures .1); protect = sym (c .before .sizes-of .ensures .2) }) (c .start .ensures (buffers (c .before .before .before .before .before .before .args .cells .now) (c .before .before .before .before .before .before .args .memory .now) (c .before .before .before .before .before .before .args .protect .now))))
 
 find-requires : tie.Need-find-requires Inv-loop μ-loop Inv-lines μ-lines
 find-requires c κs = omega arith
@@ -92,7 +119,7 @@ values-wanted-requires : tie.Need-values-wanted-requires Inv-loop μ-loop Inv-li
 values-wanted-requires c κs = search needs
 
 loop-holds : tie.Need-loop-holds Inv-loop μ-loop Inv-lines μ-lines
-loop-holds c = (refl, begin (c .values-wanted .result) _ (rw (c .values-wanted .ensures) (few (wantedOf (c .before .before .before .before .lines .p .wanted)) (c .before .before .find .result - c .before .before .before .before .lines .at))) (c .before .before .find .ensures .low) refl)
+loop-holds c = (refl, begin (c .values-wanted .result) _ (rw (c .values-wanted .ensures) (few (wanted-at (c .before .before .before .before)) (c .before .before .find .result - c .before .before .before .before .lines .at))) (c .before .before .find .ensures .low) refl)
 
 find-requires-2 : tie.Need-find-requires-2 Inv-loop μ-loop Inv-lines μ-lines
 find-requires-2 c κs = (c .before .loop .inv .1 .inside (c .loop-test .taken), c .before .before .before .before .find .ensures .high)
@@ -134,7 +161,7 @@ loop-again : tie.Need-loop-again Inv-loop μ-loop Inv-lines μ-lines
 loop-again c = (
   c .before .before .before .before .before .before .before .loop .inv .0,
   on-value (c .before .before .before .before .before .before .before .loop .inv .1) (c .before .before .before .before .before .before .loop-test .taken) (c .before .before .before .before .before .find2 .ensures) (c .before .before .before .before .before .before .before .before .before .before .find .ensures .high)
-      (placed-at (wantedOf (c .before .before .before .before .before .before .before .before .before .before .before .before .lines .p .wanted)) _ (c .before .before .before .before .before .before .before .before .values-wanted .result) (c .before .before .before .before .before .before .before .before .values-wanted .ensures) (omega (arith, c .before .before .before .before .before .before .loop-test .taken)))
+      (placed-at (wanted-at (c .before .before .before .before .before .before .before .before .before .before .before .before)) _ (c .before .before .before .before .before .before .before .before .values-wanted .result) (c .before .before .before .before .before .before .before .before .values-wanted .ensures) (omega (arith, c .before .before .before .before .before .before .loop-test .taken)))
       (c .before .v .given .0 .0) (sym (c .before .before .before .value .ensures) ∙ ap saysValue (c .before .v .given .1)),
 )
 
@@ -148,7 +175,7 @@ part-judge-end : tie.Need-part-judge-end Inv-loop μ-loop Inv-lines μ-lines
 part-judge-end c = omega arith
 
 judge-requires : tie.Need-judge-requires Inv-loop μ-loop Inv-lines μ-lines
-judge-requires c κs = omega (arith, c .before .before .before .before .before .before .before .lines .inv .1 .orders, c .before .before .before .before .before .before .lines-test .taken, c .before .before .before .before .before .before .before .before .before .before .before .before .pre)
+judge-requires c κs = omega (arith, c .before .before .before .before .before .before .before .lines .inv .1 .orders, c .before .before .before .before .before .before .lines-test .taken, c .before .before .before .before .before .before .before .before .before .before .before .before .before .before .pre)
 
 enum-known-judged : tie.Need-enum-known-judged Inv-loop μ-loop Inv-lines μ-lines
 enum-known-judged c = search needs
@@ -160,16 +187,16 @@ fault-of-requires : tie.Need-fault-of-requires Inv-loop μ-loop Inv-lines μ-lin
 fault-of-requires c κs = search needs
 
 store-requires : tie.Need-store-requires Inv-loop μ-loop Inv-lines μ-lines
-store-requires c κs = storable (c .before .before .before .before .before .before .before .before .before .before .before .before .before .before .lines .inv .1) (part (c .before .before .before .before .before .before .before .before .before .before .before .before .before .before .lines .at) (c .before .before .before .before .before .before .before .before .before .before .before .before .find .result) (c .before .before .before .before .before .before .before .before .before .before .before .before .before .before .before .before .before .before .before .args .text .now)) (givenOf (c .before .before .before .before .judged .given .0 .0)) (given (c .before .before .before))
+store-requires c κs = storable (c .before .before .before .before .before .before .before .before .before .before .before .before .before .before .lines .inv .1) (line-at (c .before .before .before .before .before .before .before .before .before .before .before .before)) (givenOf (c .before .before .before .before .judged .given .0 .0)) (given (c .before .before .before))
 
 advance-requires : tie.Need-advance-requires Inv-loop μ-loop Inv-lines μ-lines
-advance-requires c κs = omega (arith, c .before .before .before .before .before .before .before .before .before .before .before .before .before .before .before .before .before .before .before .before .before .lines .inv .1 .orders, c .before .before .before .before .before .before .before .before .before .before .before .before .before .before .before .before .before .before .before .before .lines-test .taken, c .before .before .before .before .before .before .before .before .before .before .before .before .before .before .before .before .before .before .before .before .before .before .before .before .before .before .pre)
+advance-requires c κs = omega (arith, c .before .before .before .before .before .before .before .before .before .before .before .before .before .before .before .before .before .before .before .before .before .lines .inv .1 .orders, c .before .before .before .before .before .before .before .before .before .before .before .before .before .before .before .before .before .before .before .before .lines-test .taken, c .before .before .before .before .before .before .before .before .before .before .before .before .before .before .before .before .before .before .before .before .before .before .before .before .before .before .before .before .pre)
 
 add-at : tie.Need-add-at Inv-loop μ-loop Inv-lines μ-lines
-add-at c = omega (arith, c .before .before .before .before .before .before .before .before .before .before .before .before .before .before .before .before .before .before .before .before .find .ensures .high, c .before .before .before .before .before .before .before .before .before .before .before .before .before .before .before .before .before .before .before .before .before .before .before .before .before .before .before .pre)
+add-at c = omega (arith, c .before .before .before .before .before .before .before .before .before .before .before .before .before .before .before .before .before .before .before .before .find .ensures .high, c .before .before .before .before .before .before .before .before .before .before .before .before .before .before .before .before .before .before .before .before .before .before .before .before .before .before .before .before .before .pre)
 
 add-line : tie.Need-add-line Inv-loop μ-loop Inv-lines μ-lines
-add-line c = omega (arith, c .before .before .before .before .before .before .before .before .before .before .before .before .before .before .before .before .before .before .before .before .before .before .lines .inv .1 .lines, c .before .before .before .before .before .before .before .before .before .before .before .before .before .before .before .before .before .before .before .before .before .before .lines .inv .1 .reach, c .before .before .before .before .before .before .before .before .before .before .before .before .before .before .before .before .before .before .before .before .before .before .before .before .before .before .before .pre)
+add-line c = omega (arith, c .before .before .before .before .before .before .before .before .before .before .before .before .before .before .before .before .before .before .before .before .before .before .lines .inv .1 .lines, c .before .before .before .before .before .before .before .before .before .before .before .before .before .before .before .before .before .before .before .before .before .before .lines .inv .1 .reach, c .before .before .before .before .before .before .before .before .before .before .before .before .before .before .before .before .before .before .before .before .before .before .before .before .before .before .before .before .before .pre)
 
 lines-less : tie.Need-lines-less Inv-loop μ-loop Inv-lines μ-lines
 lines-less c = omega (arith, c .before .before .before .before .before .before .before .before .before .before .before .before .before .before .before .before .before .before .before .before .find .ensures .low, c .before .before .before .before .before .before .before .before .before .before .before .before .before .before .before .before .before .before .before .before .find .ensures .high, ended (c .before .before .before .before .before .before .before .before .before .before .before .before .before .before .before .before .before .before .before))
@@ -204,6 +231,8 @@ walk-spec =
     μ-loop
     Inv-lines
     μ-lines
+    sizes-of-requires
+    start-requires
     lines-holds
     find-requires
     sub-values-wanted

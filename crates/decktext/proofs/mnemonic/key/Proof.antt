@@ -1,4 +1,5 @@
-use Rattle.decktext.proofs.Digits.{grown, within, next}
+use Rattle.decktext.proofs.Digits.{grown, within}
+use Rattle.decktext.proofs.Same.{next}
 use Rattle.decktext.specs.Key.{bytesFrom, keyOf}
 use lib.ListN.{length, drop, drop-of-length-le}
 use Prim.Native.Nat.{ℕ, _+_, _-_, _*_, _^_, _≤_, _<_}
