@@ -2,6 +2,7 @@ ghost use mathlib.Core.Path.{_≡_};
 ghost use Rattle.machine.specs.Fresh.{freshState};
 
 // What one seat has: the registers that its orders see.
+#[repr(C)]
 pub struct Registers {
     pub float: [u32; 8],
     pub general: [u32; 8],
@@ -11,6 +12,7 @@ pub struct Registers {
 }
 
 // The registers, and how many records of the journal are in use.
+#[repr(C)]
 pub struct State {
     pub registers: Registers,
     pub used: u32,

@@ -1,0 +1,199 @@
+//! Random and damaged inputs: state, every buffer and every answer compared after each call.
+use compare::guarded::Guarded;
+use compare::panel::{self, Lent};
+use compare::random::Random;
+use compare::reference::{self, Buffers, State, MNEMONICS};
+
+const CALLS: u64 = 1_200_000;
+
+fn order(r: &mut Random, orders: u64, memory: u64) -> [u16; 4] {
+    let mut cells = [0u16; 4];
+    loop {
+        cells[0] = r.below(22) as u16 + 1;
+        // HALT ends a run, so it is seldom
+        if cells[0] != 22 || r.chance(20) {
+            break;
+        }
+    }
+    let register = r.below(8) as u16;
+    let at = match cells[0] {
+        20 | 21 => r.below(orders + 1) as u16,
+        _ => r.below(memory + 2) as u16,
+    };
+    match cells[0] {
+        2 | 3 | 6 | 8 | 12 | 14..=18 | 20 | 21 => (cells[1], cells[3]) = (register, at),
+        19 => cells[2] = register % 2,
+        22 => {}
+        _ => (cells[1], cells[2]) = (register, r.below(8) as u16),
+    }
+    if r.chance(40) {
+        cells[r.below(4) as usize] = r.below(70_000) as u16;
+    }
+    cells
+}
+
+fn state(r: &mut Random) -> State {
+    let mut s = State::default();
+    for k in 0..8 {
+        s.float[k] = r.float();
+        s.general[k] = match r.below(4) {
+            0 => r.below(4) as u32,
+            _ => r.next() as u32,
+        };
+    }
+    s.code = [0, 1, 3][r.below(3) as usize];
+    s.mask = r.below(2) as u8;
+    s
+}
+
+/// A state that no call leaves behind.
+fn wild(r: &mut Random, s: &mut State) {
+    match r.below(4) {
+        0 => s.code = r.next() as u8,
+        1 => s.mask = r.next() as u8,
+        2 => s.used = r.next() as u32 >> r.below(32),
+        _ => s.pointer = r.next() as u16,
+    }
+}
+
+fn buffers(r: &mut Random) -> Buffers {
+    let orders = r.below(12) + 1;
+    let large = r.chance(2000);
+    let memory = if large { 32_760 + r.below(16) } else { r.below(40) };
+    let mut deck: Vec<u16> = (0..orders).flat_map(|_| order(r, orders, memory)).collect();
+    let mut journal = r.below(120);
+    let mut protect = memory;
+    match r.below(200) {
+        0 => deck.truncate(deck.len().saturating_sub(1)),
+        1 => deck.push(7),
+        2 => protect += 1,
+        3 => protect = protect.saturating_sub(1),
+        4 if large => journal = 16_380 + r.below(10),
+        5 if large => deck.resize(16_384 + 4 * r.below(2) as usize, 0),
+        _ => {}
+    }
+    Buffers {
+        deck,
+        memory: (0..memory).map(|_| if r.chance(3) { 0 } else { r.next() as u16 }).collect(),
+        protect: (0..protect).map(|_| if r.chance(12) { r.next() as u8 } else { 0 }).collect(),
+        journal: (0..journal).map(|_| if r.chance(3) { r.next() as u32 } else { 0 }).collect(),
+    }
+}
+
+/// Calls on one machine until the budget of this machine is spent; how many were made.
+fn machine(r: &mut Random) -> u64 {
+    let mut b = buffers(r);
+    let mut s = state(r);
+    if r.chance(6) {
+        wild(r, &mut s);
+    }
+    if r.chance(10) {
+        s.used = (b.journal.len() / 4) as u32;
+    }
+    let calls = 4 + r.below(60);
+    for k in 0..calls {
+        if r.chance(60) {
+            wild(r, &mut s);
+        }
+        if r.chance(60) && !b.journal.is_empty() {
+            let at = r.below(b.journal.len() as u64) as usize;
+            b.journal[at] = r.next() as u32 >> r.below(32);
+        }
+        let mut lent = Lent::from(s);
+        let mut memory = Guarded::new(&b.memory, 0xA5A5);
+        let mut journal = Guarded::new(&b.journal, 0xA5A5_A5A5);
+        let (ours, theirs) = match r.below(10) {
+            0 | 1 | 2 => (
+                (0, reference::back(&mut s, &mut b)),
+                (0, panel::back(&mut lent, memory.inner(), &b.protect, journal.inner())),
+            ),
+            3 => {
+                let limit = if r.chance(3) { r.below(3) as u32 } else { r.below(200) as u32 };
+                (
+                    reference::run(&mut s, &mut b, limit),
+                    panel::run(&mut lent, &b.deck, memory.inner(), &b.protect, journal.inner(), limit),
+                )
+            }
+            _ => (
+                (0, reference::step(&mut s, &mut b)),
+                (0, panel::step(&mut lent, &b.deck, memory.inner(), &b.protect, journal.inner())),
+            ),
+        };
+        let same = ours == theirs && State::from(lent) == s && memory.is(&b.memory) && journal.is(&b.journal);
+        assert!(same, "call {k}: {ours:?} here, {theirs:?} in the panel library\n{s:?}\n{:?}\n{b:?}", State::from(lent));
+    }
+    calls
+}
+
+fn text(r: &mut Random) -> Vec<u8> {
+    let mut t = b"op r1 r2 at\n".to_vec();
+    let orders = if r.chance(500) { 4_000 } else { r.below(10) };
+    for _ in 0..orders {
+        let c = order(r, orders, 20);
+        let name = MNEMONICS.get(c[0].wrapping_sub(1) as usize).unwrap_or(&"NO");
+        t.extend(format!("{name} {} {} {}\n", c[1], c[2], c[3]).bytes());
+    }
+    if r.chance(2) {
+        t.extend(b"\nat protect word\n");
+        let mut at = 0;
+        for _ in 0..r.below(10) {
+            at += r.below(4);
+            t.extend(format!("{at} {} {:04X}\n", r.below(2), r.next() as u16).bytes());
+            at += (!r.chance(40)) as u64;
+        }
+    }
+    for _ in 0..r.below(3) {
+        let at = r.below(t.len() as u64) as usize;
+        match r.below(5) {
+            0 => t[at] = b" \n0123456789ABCDEFabLERop\r\t"[r.below(27) as usize],
+            1 => drop(t.remove(at)),
+            2 => t.insert(at, b" \n0"[r.below(3) as usize]),
+            3 => t.truncate(at),
+            _ => {}
+        }
+        if t.is_empty() {
+            break;
+        }
+    }
+    if r.chance(300) {
+        t.resize(32_768 + r.below(3) as usize, b'\n');
+    }
+    t
+}
+
+fn reading(r: &mut Random) -> u64 {
+    let t = text(r);
+    let mut fill = |n: u64| (0..n).map(|_| r.next() as u16).collect::<Vec<u16>>();
+    let (mut cells, mut memory) = (fill(40), fill(24));
+    let mut protect: Vec<u8> = fill(24).iter().map(|x| *x as u8).collect();
+    cells.truncate(if r.chance(4) { r.below(40) as usize } else { 40 });
+    memory.truncate(if r.chance(4) { r.below(24) as usize } else { 24 });
+    protect.truncate(if r.chance(4) { r.below(24) as usize } else { 24 });
+    if r.chance(20) {
+        cells.resize(17_000, 9);
+    }
+    let (mut c, mut m, mut p) = (Guarded::new(&cells, 0xA5A5), Guarded::new(&memory, 0xA5A5), Guarded::new(&protect, 0xA5));
+    let theirs = panel::read(&t, c.inner(), m.inner(), p.inner());
+    let ours = reference::read(&t, &mut cells, &mut memory, &mut protect);
+    let same = ours == theirs && c.is(&cells) && m.is(&memory) && p.is(&protect);
+    assert!(same, "{ours:?} here, {theirs:?} in the panel library:\n{}", String::from_utf8_lossy(&t));
+    1
+}
+
+fn main() {
+    let seed = std::env::args().nth(1).and_then(|s| s.parse().ok()).unwrap_or(20_261_115);
+    let mut r = Random::new(seed);
+    let mut lent = Lent::from(state(&mut r));
+    panel::fresh(&mut lent);
+    assert!(State::from(lent) == State::default());
+    let (mut calls, mut texts) = (1, 0);
+    while calls < CALLS {
+        if r.chance(3) {
+            texts += 1;
+            calls += reading(&mut r);
+        } else {
+            calls += machine(&mut r);
+        }
+    }
+    println!("{calls} calls, {texts} of them texts: 0 differences (seed {seed})");
+}

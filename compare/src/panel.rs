@@ -1,0 +1,167 @@
+//! The proved library, as C sees it. Nothing checks these declarations against the Rattle source but the comparison.
+use crate::reference::State;
+
+#[repr(C)]
+#[derive(Clone, Copy)]
+pub struct Registers {
+    float: [u32; 8],
+    general: [u32; 8],
+    code: u8,
+    mask: u8,
+    pointer: u16,
+}
+
+#[repr(C)]
+#[derive(Clone, Copy)]
+pub struct Lent {
+    registers: Registers,
+    used: u32,
+}
+
+extern "C" {
+    fn panel_fresh(state: *mut Lent);
+    fn panel_step(
+        state: *mut Lent,
+        deck: *const u16,
+        deck_len: usize,
+        memory: *mut u16,
+        memory_len: usize,
+        protect: *const u8,
+        protect_len: usize,
+        journal: *mut u32,
+        journal_len: usize,
+    ) -> u8;
+    fn panel_run(
+        state: *mut Lent,
+        deck: *const u16,
+        deck_len: usize,
+        memory: *mut u16,
+        memory_len: usize,
+        protect: *const u8,
+        protect_len: usize,
+        journal: *mut u32,
+        journal_len: usize,
+        limit: u32,
+        count: *mut u32,
+    ) -> u8;
+    fn panel_back(
+        state: *mut Lent,
+        memory: *mut u16,
+        memory_len: usize,
+        protect: *const u8,
+        protect_len: usize,
+        journal: *mut u32,
+        journal_len: usize,
+    ) -> u8;
+    fn panel_read(
+        text: *const u8,
+        text_len: usize,
+        cells: *mut u16,
+        cells_len: usize,
+        memory: *mut u16,
+        memory_len: usize,
+        protect: *mut u8,
+        protect_len: usize,
+        value: *mut u32,
+    ) -> u8;
+}
+
+impl From<State> for Lent {
+    fn from(s: State) -> Lent {
+        let State { float, general, code, mask, pointer, used } = s;
+        Lent { registers: Registers { float, general, code, mask, pointer }, used }
+    }
+}
+
+impl From<Lent> for State {
+    fn from(l: Lent) -> State {
+        let Registers { float, general, code, mask, pointer } = l.registers;
+        State { float, general, code, mask, pointer, used: l.used }
+    }
+}
+
+pub fn fresh(s: &mut Lent) {
+    unsafe { panel_fresh(s) }
+}
+
+#[inline]
+pub fn step(s: &mut Lent, deck: &[u16], memory: &mut [u16], protect: &[u8], journal: &mut [u32]) -> u8 {
+    unsafe {
+        panel_step(
+            s,
+            deck.as_ptr(),
+            deck.len(),
+            memory.as_mut_ptr(),
+            memory.len(),
+            protect.as_ptr(),
+            protect.len(),
+            journal.as_mut_ptr(),
+            journal.len(),
+        )
+    }
+}
+
+#[inline]
+pub fn run(
+    s: &mut Lent,
+    deck: &[u16],
+    memory: &mut [u16],
+    protect: &[u8],
+    journal: &mut [u32],
+    limit: u32,
+) -> (u32, u8) {
+    let mut count = 0xDEAD_BEEF;
+    let stop = unsafe {
+        panel_run(
+            s,
+            deck.as_ptr(),
+            deck.len(),
+            memory.as_mut_ptr(),
+            memory.len(),
+            protect.as_ptr(),
+            protect.len(),
+            journal.as_mut_ptr(),
+            journal.len(),
+            limit,
+            &mut count,
+        )
+    };
+    (count, stop)
+}
+
+#[inline]
+pub fn back(s: &mut Lent, memory: &mut [u16], protect: &[u8], journal: &mut [u32]) -> u8 {
+    unsafe {
+        panel_back(
+            s,
+            memory.as_mut_ptr(),
+            memory.len(),
+            protect.as_ptr(),
+            protect.len(),
+            journal.as_mut_ptr(),
+            journal.len(),
+        )
+    }
+}
+
+#[inline]
+pub fn read(text: &[u8], cells: &mut [u16], memory: &mut [u16], protect: &mut [u8]) -> Result<u32, (u8, u32)> {
+    let mut value = 0xDEAD_BEEF;
+    let number = unsafe {
+        panel_read(
+            text.as_ptr(),
+            text.len(),
+            cells.as_mut_ptr(),
+            cells.len(),
+            memory.as_mut_ptr(),
+            memory.len(),
+            protect.as_mut_ptr(),
+            protect.len(),
+            &mut value,
+        )
+    };
+    match number {
+        0 => Ok(value),
+        n => Err((n, value)),
+    }
+}

@@ -1,0 +1,596 @@
+//! Document 01 again, written from the papers in plain Rust: nothing here is shared with the proved code.
+
+/// The state of the desk.
+#[derive(Clone, Copy, PartialEq, Eq, Debug, Default)]
+pub struct State {
+    pub float: [u32; 8],
+    pub general: [u32; 8],
+    pub code: u8,
+    pub mask: u8,
+    pub pointer: u16,
+    pub used: u32,
+}
+
+/// The buffers that a call is lent.
+#[derive(Clone, PartialEq, Eq, Debug)]
+pub struct Buffers {
+    pub deck: Vec<u16>,
+    pub memory: Vec<u16>,
+    pub protect: Vec<u8>,
+    pub journal: Vec<u32>,
+}
+
+// ---- numbers: sign, characteristic, fraction of d hexadecimal digits
+
+#[derive(Clone, Copy)]
+struct Number {
+    negative: bool,
+    characteristic: i32,
+    fraction: u64,
+}
+
+fn short(w: u32) -> Number {
+    Number {
+        negative: w >> 31 == 1,
+        characteristic: (w >> 24 & 0x7f) as i32,
+        fraction: (w & 0xff_ffff) as u64,
+    }
+}
+
+fn long(hi: u32, lo: u32) -> Number {
+    Number {
+        fraction: ((hi & 0xff_ffff) as u64) << 32 | lo as u64,
+        ..short(hi)
+    }
+}
+
+fn sign_code(n: Number) -> u8 {
+    match (n.fraction, n.negative) {
+        (0, _) => 0,
+        (_, true) => 3,
+        (_, false) => 1,
+    }
+}
+
+/// The fraction moved left until its first digit of d is not zero. The fraction is not zero.
+#[inline]
+fn normal(n: Number, d: u32) -> Number {
+    let zeros = n.fraction.leading_zeros() / 4 - (16 - d);
+    Number {
+        characteristic: n.characteristic - zeros as i32,
+        fraction: n.fraction << (4 * zeros),
+        ..n
+    }
+}
+
+/// The condition code of a compare by exact value.
+#[inline]
+fn compare(a: Number, b: Number, d: u32) -> u8 {
+    let less = |x: bool| if x { 3 } else { 1 };
+    match (a.fraction == 0, b.fraction == 0) {
+        (true, true) => return 0,
+        (true, false) => return less(!b.negative),
+        (false, true) => return less(a.negative),
+        (false, false) => {}
+    }
+    if a.negative != b.negative {
+        return less(a.negative);
+    }
+    let (x, y) = (normal(a, d), normal(b, d));
+    let (x, y) = ((x.characteristic, x.fraction), (y.characteristic, y.fraction));
+    if x == y {
+        0
+    } else {
+        less((x < y) != a.negative)
+    }
+}
+
+/// The quotient of two numbers of d digits: sign, characteristic and fraction, or a stop.
+#[inline]
+fn divide(a: Number, b: Number, d: u32, mask: bool) -> Result<Number, u8> {
+    let zero = Number { negative: false, characteristic: 0, fraction: 0 };
+    if b.fraction == 0 {
+        return Err(8);
+    }
+    if a.fraction == 0 {
+        return Ok(zero);
+    }
+    let (x, y) = (normal(a, d), normal(b, d));
+    // x.fraction / y.fraction lies between 1/16 and 16
+    let (shift, carry) = if x.fraction >= y.fraction { (d - 1, 1) } else { (d, 0) };
+    let fraction = if d == 6 {
+        (x.fraction << (4 * shift)) / y.fraction
+    } else {
+        (((x.fraction as u128) << (4 * shift)) / y.fraction as u128) as u64
+    };
+    let characteristic = x.characteristic - y.characteristic + 64 + carry;
+    if characteristic > 127 {
+        return Err(9);
+    }
+    if characteristic < 0 {
+        return if mask { Err(10) } else { Ok(zero) };
+    }
+    Ok(Number { negative: a.negative != b.negative, characteristic, fraction })
+}
+
+fn pack_short(n: Number) -> u32 {
+    (n.negative as u32) << 31 | (n.characteristic as u32) << 24 | n.fraction as u32
+}
+
+fn pack_long(n: Number) -> (u32, u32) {
+    let hi = (n.negative as u32) << 31 | (n.characteristic as u32) << 24 | (n.fraction >> 32) as u32;
+    (hi, n.fraction as u32)
+}
+
+/// CVFX: the word and its code, or 11.
+fn to_fixed(w: u32) -> Result<(u32, u8), u8> {
+    let n = short(w);
+    if n.fraction == 0 {
+        return Ok((0, 0));
+    }
+    // value * 65,536 = fraction * 16^(characteristic - 66)
+    let places = n.characteristic - 66;
+    let magnitude: u64 = if places > 8 {
+        return Err(11);
+    } else if places >= 0 {
+        n.fraction << (4 * places)
+    } else if places > -16 {
+        n.fraction >> (-4 * places)
+    } else {
+        0
+    };
+    let signed = if n.negative { -(magnitude as i64) } else { magnitude as i64 };
+    let word = i32::try_from(signed).map_err(|_| 11)?;
+    let code = match word >> 16 {
+        0 => 0,
+        h if h < 0 => 3,
+        _ => 1,
+    };
+    Ok((word as u32, code))
+}
+
+/// CVFL: the word and its code.
+fn to_float(w: u32) -> (u32, u8) {
+    let signed = w as i32;
+    if signed == 0 {
+        return (0, 0);
+    }
+    let magnitude = signed.unsigned_abs();
+    let zeros = magnitude.leading_zeros() / 4;
+    let n = Number {
+        negative: signed < 0,
+        characteristic: 68 - zeros as i32,
+        fraction: ((magnitude << (4 * zeros)) >> 8) as u64,
+    };
+    (pack_short(n), sign_code(n))
+}
+
+// ---- orders
+
+/// Largest r1 and r2, whether `at` is in use, and the halfwords of the storage operand.
+fn form(code: u16) -> Option<(u16, u16, bool, usize)> {
+    Some(match code {
+        1 | 4 | 5 | 7 | 9 | 10 | 11 | 13 => (7, 7, false, 0),
+        2 | 6 | 12 | 15 | 17 | 18 => (7, 0, true, 2),
+        3 | 8 | 14 | 16 => (7, 0, true, 4),
+        19 => (0, 1, false, 0),
+        20 | 21 => (7, 0, true, 0),
+        22 => (0, 0, false, 0),
+        _ => return None,
+    })
+}
+
+/// Check 5.
+pub fn legal(cells: [u16; 4]) -> bool {
+    match form(cells[0]) {
+        None => false,
+        Some((r1, r2, at, _)) => cells[1] <= r1 && cells[2] <= r2 && (at || cells[3] == 0),
+    }
+}
+
+fn stores(code: u16) -> bool {
+    matches!(code, 15 | 16 | 18)
+}
+
+/// What a step overwrites.
+#[derive(Clone, Copy)]
+enum Change {
+    Nothing,
+    Float(usize, u32),
+    Pair(usize, u32, u32),
+    General(usize, u32),
+    Two(usize, u32),
+    Four(usize, u32, u32),
+}
+
+struct Effect {
+    change: Change,
+    code: u8,
+    mask: u8,
+    pointer: u16,
+}
+
+fn word(memory: &[u16], at: usize) -> u32 {
+    (memory[at] as u32) << 16 | memory[at + 1] as u32
+}
+
+fn put(memory: &mut [u16], at: usize, w: u32) {
+    memory[at] = (w >> 16) as u16;
+    memory[at + 1] = w as u16;
+}
+
+/// Checks 2 and 3.
+fn held(s: &State, memory: usize, protect: usize, journal: usize) -> Result<(), u8> {
+    if memory > 32_768 || journal > 16_384 || protect != memory {
+        return Err(2);
+    }
+    if s.code == 2 || s.code > 3 || s.mask > 1 || s.used as usize > journal / 4 {
+        return Err(3);
+    }
+    Ok(())
+}
+
+fn entry(s: &State, deck: usize, memory: usize, protect: usize, journal: usize) -> Result<(), u8> {
+    if deck % 4 != 0 || deck > 16_384 {
+        return Err(1);
+    }
+    held(s, memory, protect, journal)
+}
+
+#[inline]
+fn effect(s: &State, cells: [u16; 4], memory: &[u16]) -> Result<Effect, u8> {
+    let [code, r1, r2, at] = cells;
+    let (r1, r2, a) = (r1 as usize, r2 as usize, at as usize);
+    let next = |change, code| Effect { change, code, mask: s.mask, pointer: s.pointer + 1 };
+    let pair = |r: usize| (s.float[r], s.float[(r + 1) % 8]);
+    let second_short = || if form(code).unwrap().2 { word(memory, a) } else { s.float[r2] };
+    let second_long = || {
+        if form(code).unwrap().2 {
+            (word(memory, a), word(memory, a + 2))
+        } else {
+            pair(r2)
+        }
+    };
+    Ok(match code {
+        1 | 2 => {
+            let w = second_short();
+            next(Change::Float(r1, w), sign_code(short(w)))
+        }
+        3 => {
+            let (h, l) = second_long();
+            next(Change::Pair(r1, h, l), sign_code(long(h, l)))
+        }
+        4 => {
+            let w = s.float[r2];
+            let w = if w & 0xff_ffff == 0 { 0 } else { w ^ 0x8000_0000 };
+            next(Change::Float(r1, w), sign_code(short(w)))
+        }
+        5 | 6 => next(Change::Nothing, compare(short(s.float[r1]), short(second_short()), 6)),
+        7 | 8 => {
+            let ((a, b), (c, d)) = (pair(r1), second_long());
+            next(Change::Nothing, compare(long(a, b), long(c, d), 14))
+        }
+        9 => {
+            let (w, cc) = to_fixed(s.float[r2])?;
+            next(Change::General(r1, w), cc)
+        }
+        10 => {
+            let (w, cc) = to_float(s.general[r2]);
+            next(Change::Float(r1, w), cc)
+        }
+        11 | 12 => {
+            let q = divide(short(s.float[r1]), short(second_short()), 6, s.mask == 1)?;
+            next(Change::Float(r1, pack_short(q)), s.code)
+        }
+        13 | 14 => {
+            let ((a, b), (c, d)) = (pair(r1), second_long());
+            let (h, l) = pack_long(divide(long(a, b), long(c, d), 14, s.mask == 1)?);
+            next(Change::Pair(r1, h, l), s.code)
+        }
+        15 => next(Change::Two(a, s.float[r1]), s.code),
+        16 => {
+            let (h, l) = pair(r1);
+            next(Change::Four(a, h, l), s.code)
+        }
+        17 => {
+            let w = word(memory, a);
+            let cc = match w as i32 {
+                0 => 0,
+                v if v < 0 => 3,
+                _ => 1,
+            };
+            next(Change::General(r1, w), cc)
+        }
+        18 => next(Change::Two(a, s.general[r1]), s.code),
+        19 => Effect { mask: r2 as u8, ..next(Change::Nothing, s.code) },
+        20 => {
+            let bit = match s.code {
+                0 => 4,
+                1 => 2,
+                _ => 1,
+            };
+            let mut e = next(Change::Nothing, s.code);
+            if r1 & bit != 0 {
+                e.pointer = at;
+            }
+            e
+        }
+        21 => {
+            let w = s.general[r1].wrapping_sub(1);
+            let mut e = next(Change::General(r1, w), s.code);
+            if w != 0 {
+                e.pointer = at;
+            }
+            e
+        }
+        _ => return Err(12),
+    })
+}
+
+/// Every check of a step in the table's order, or its effect.
+fn decide(s: &State, b: &Buffers) -> Result<Effect, u8> {
+    entry(s, b.deck.len(), b.memory.len(), b.protect.len(), b.journal.len())?;
+    let p = s.pointer as usize;
+    if p >= b.deck.len() / 4 {
+        return Err(4);
+    }
+    let cells = [b.deck[4 * p], b.deck[4 * p + 1], b.deck[4 * p + 2], b.deck[4 * p + 3]];
+    if !legal(cells) {
+        return Err(5);
+    }
+    if cells[0] == 22 {
+        return Err(12);
+    }
+    if s.used as usize == b.journal.len() / 4 {
+        return Err(13);
+    }
+    let (_, _, _, span) = form(cells[0]).unwrap();
+    let at = cells[3] as usize;
+    if span > 0 && at + span > b.memory.len() {
+        return Err(6);
+    }
+    if stores(cells[0]) && b.protect[at..at + span].iter().any(|x| *x != 0) {
+        return Err(7);
+    }
+    effect(s, cells, &b.memory)
+}
+
+fn old(s: &State, memory: &[u16], c: Change) -> (u32, u32, u32, u32) {
+    match c {
+        Change::Nothing => (0, 0, 0, 0),
+        Change::Float(r, _) => (1, r as u32, s.float[r], 0),
+        Change::Pair(r, _, _) => (2, r as u32, s.float[r], s.float[(r + 1) % 8]),
+        Change::General(r, _) => (3, r as u32, s.general[r], 0),
+        Change::Two(a, _) => (4, a as u32, word(memory, a), 0),
+        Change::Four(a, _, _) => (5, a as u32, word(memory, a), word(memory, a + 2)),
+    }
+}
+
+fn apply(s: &mut State, memory: &mut [u16], e: &Effect) {
+    match e.change {
+        Change::Nothing => {}
+        Change::Float(r, w) => s.float[r] = w,
+        Change::Pair(r, h, l) => {
+            s.float[r] = h;
+            s.float[(r + 1) % 8] = l;
+        }
+        Change::General(r, w) => s.general[r] = w,
+        Change::Two(a, w) => put(memory, a, w),
+        Change::Four(a, h, l) => {
+            put(memory, a, h);
+            put(memory, a + 2, l);
+        }
+    }
+    s.code = e.code;
+    s.mask = e.mask;
+    s.pointer = e.pointer;
+}
+
+/// One step: 0 or the number of the stop.
+pub fn step(s: &mut State, b: &mut Buffers) -> u8 {
+    let e = match decide(s, b) {
+        Ok(e) => e,
+        Err(n) => return n,
+    };
+    let (kind, place, left, right) = old(s, &b.memory, e.change);
+    let head = s.pointer as u32 | (s.code as u32) << 16 | (s.mask as u32) << 18 | kind << 19;
+    let k = 4 * s.used as usize;
+    b.journal[k..k + 4].copy_from_slice(&[head, place, left, right]);
+    apply(s, &mut b.memory, &e);
+    s.used += 1;
+    0
+}
+
+/// A run: the steps taken, and 0 or the number of the stop.
+pub fn run(s: &mut State, b: &mut Buffers, limit: u32) -> (u32, u8) {
+    if let Err(n) = entry(s, b.deck.len(), b.memory.len(), b.protect.len(), b.journal.len()) {
+        return (0, n);
+    }
+    let mut count = 0;
+    while count < limit {
+        match step(s, b) {
+            0 => count += 1,
+            n => return (count, n),
+        }
+    }
+    (count, 0)
+}
+
+/// A back step: 0 or the number of the stop.
+pub fn back(s: &mut State, b: &mut Buffers) -> u8 {
+    if let Err(n) = held(s, b.memory.len(), b.protect.len(), b.journal.len()) {
+        return n;
+    }
+    if s.used == 0 {
+        return 14;
+    }
+    let k = 4 * (s.used as usize - 1);
+    let [head, place, left, right] = [b.journal[k], b.journal[k + 1], b.journal[k + 2], b.journal[k + 3]];
+    let r = place as usize;
+    let change = match head >> 19 {
+        0 if place == 0 && left == 0 && right == 0 => Change::Nothing,
+        1 if r < 8 && right == 0 => Change::Float(r, left),
+        2 if r < 8 => Change::Pair(r, left, right),
+        3 if r < 8 && right == 0 => Change::General(r, left),
+        4 if right == 0 => Change::Two(r, left),
+        5 => Change::Four(r, left, right),
+        _ => return 15,
+    };
+    let span = match change {
+        Change::Two(..) => 2,
+        Change::Four(..) => 4,
+        _ => 0,
+    };
+    if span > 0 && (r + span > b.memory.len() || b.protect[r..r + span].iter().any(|x| *x != 0)) {
+        return 15;
+    }
+    let e = Effect {
+        change,
+        code: (head >> 16 & 3) as u8,
+        mask: (head >> 18 & 1) as u8,
+        pointer: head as u16,
+    };
+    if e.code == 2 {
+        return 15;
+    }
+    apply(s, &mut b.memory, &e);
+    s.used -= 1;
+    0
+}
+
+// ---- deck text
+
+pub const MNEMONICS: [&str; 22] = [
+    "LER", "LE", "LED", "LECR", "CER", "CE", "CEDR", "CED", "CVFX", "CVFL", "DER", "DE", "DEDR", "DED", "STE",
+    "STED", "L", "ST", "UM", "JC", "JN", "HALT",
+];
+
+fn decimal(v: &[u8]) -> Option<u16> {
+    if v.is_empty() || v.len() > 5 || (v.len() > 1 && v[0] == b'0') || !v.iter().all(u8::is_ascii_digit) {
+        return None;
+    }
+    let n = v.iter().fold(0u32, |n, d| n * 10 + (d - b'0') as u32);
+    u16::try_from(n).ok()
+}
+
+fn hex_word(v: &[u8]) -> Option<u16> {
+    if v.len() != 4 {
+        return None;
+    }
+    v.iter().try_fold(0u16, |n, d| {
+        let d = match d {
+            b'0'..=b'9' => d - b'0',
+            b'A'..=b'F' => d - b'A' + 10,
+            _ => return None,
+        };
+        Some(n << 4 | d as u16)
+    })
+}
+
+fn mnemonic(v: &[u8]) -> Option<u16> {
+    Some(match v {
+        b"LER" => 1,
+        b"LE" => 2,
+        b"LED" => 3,
+        b"LECR" => 4,
+        b"CER" => 5,
+        b"CE" => 6,
+        b"CEDR" => 7,
+        b"CED" => 8,
+        b"CVFX" => 9,
+        b"CVFL" => 10,
+        b"DER" => 11,
+        b"DE" => 12,
+        b"DEDR" => 13,
+        b"DED" => 14,
+        b"STE" => 15,
+        b"STED" => 16,
+        b"L" => 17,
+        b"ST" => 18,
+        b"UM" => 19,
+        b"JC" => 20,
+        b"JN" => 21,
+        b"HALT" => 22,
+        _ => return None,
+    })
+}
+
+fn order(line: &[u8]) -> Option<[u16; 4]> {
+    let mut v = line.split(|b| *b == b' ');
+    let cells = [mnemonic(v.next()?)?, decimal(v.next()?)?, decimal(v.next()?)?, decimal(v.next()?)?];
+    (v.next().is_none() && legal(cells)).then_some(cells)
+}
+
+fn halfword(line: &[u8]) -> Option<(u16, u8, u16)> {
+    let mut v = line.split(|b| *b == b' ');
+    let at = decimal(v.next()?)?;
+    let protect = match v.next()? {
+        b"0" => 0,
+        b"1" => 1,
+        _ => return None,
+    };
+    let word = hex_word(v.next()?)?;
+    v.next().is_none().then_some((at, protect, word))
+}
+
+/// The order count, or the number and the line of a refusal. A refused text writes nothing.
+pub fn read(text: &[u8], cells: &mut [u16], memory: &mut [u16], protect: &mut [u8]) -> Result<u32, (u8, u32)> {
+    if text.len() > 32_768 {
+        return Err((17, 0));
+    }
+    let mut orders: Vec<[u16; 4]> = Vec::new();
+    let mut halfwords: Vec<(u16, u8, u16)> = Vec::new();
+    #[derive(PartialEq)]
+    enum Wants {
+        Heading,
+        Orders,
+        Storage,
+        Halfwords,
+    }
+    let mut wants = Wants::Heading;
+    let mut number = 0;
+    let mut rest = text;
+    loop {
+        number += 1;
+        let Some(end) = rest.iter().position(|b| *b == b'\n') else {
+            let may_end = matches!(wants, Wants::Orders | Wants::Halfwords);
+            if rest.is_empty() && may_end {
+                break;
+            }
+            return Err((16, number));
+        };
+        let line = &rest[..end];
+        rest = &rest[end + 1..];
+        match wants {
+            Wants::Heading if line == b"op r1 r2 at" => wants = Wants::Orders,
+            Wants::Storage if line == b"at protect word" => wants = Wants::Halfwords,
+            Wants::Orders if line.is_empty() => wants = Wants::Storage,
+            Wants::Orders => {
+                let o = order(line).ok_or((16, number))?;
+                if 4 * orders.len() + 4 > cells.len() {
+                    return Err((17, number));
+                }
+                orders.push(o);
+            }
+            Wants::Halfwords => {
+                let h = halfword(line).ok_or((16, number))?;
+                if halfwords.last().is_some_and(|last| h.0 <= last.0) {
+                    return Err((16, number));
+                }
+                if h.0 as usize >= memory.len().min(protect.len()) {
+                    return Err((17, number));
+                }
+                halfwords.push(h);
+            }
+            _ => return Err((16, number)),
+        }
+    }
+    for (k, o) in orders.iter().enumerate() {
+        cells[4 * k..4 * k + 4].copy_from_slice(o);
+    }
+    for (at, p, w) in halfwords {
+        memory[at as usize] = w;
+        protect[at as usize] = p;
+    }
+    Ok(orders.len() as u32)
+}

@@ -1,0 +1,25 @@
+-- `panel::value::back_by_value` meets its contract: the stop's number stands for the stop.
+-- Assumes nothing.
+use mathlib.Core.Path.{_∙_, ap}
+use Rattle.machine.specs.Step.{outcome}
+use borrow.Author.Needs.{needs}
+use Rattle.panel.proofs.value.back_by_value.Statement.{statement}
+use Rattle.panel.proofs.value.back_by_value.Tie as tie
+
+back-requires : tie.Need-back-requires
+back-requires c κs = search needs
+
+number-requires : tie.Need-number-requires
+number-requires c κs = search needs
+
+same-length : tie.Need-same-length
+same-length c = search needs
+
+same-length-2 : tie.Need-same-length-2
+same-length-2 c = search needs
+
+returns : tie.Need-returns
+returns c = ap (outcome _ 0) (c .number .ensures) ∙ c .before .before .before .before .before .before .back .ensures
+
+pub back-by-value-spec : {M : Type 1} → statement M
+back-by-value-spec = tie.close (tie.spec back-requires number-requires same-length same-length-2 returns)

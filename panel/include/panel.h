@@ -1,0 +1,51 @@
+/* The AP-101S floating desk for the bench panel: link with libpanel.a (`rt staticlib panel`).
+ *
+ * Every function takes any content and any lengths that its types allow, and returns 0 or one of the numbers of the
+ * README's table. A refusal leaves the state and every buffer as they were. A pointer with length 0 may be anything that
+ * is aligned; no two lent buffers overlap. Nothing is kept between calls.
+ */
+#ifndef PANEL_H
+#define PANEL_H
+
+#include <stddef.h>
+#include <stdint.h>
+
+/* What one user's orders see. A fresh one is all zero. */
+typedef struct {
+    uint32_t floats[8];   /* float registers */
+    uint32_t generals[8]; /* general registers */
+    uint8_t code;         /* condition code: 0, 1 or 3 */
+    uint8_t mask;         /* underflow mask: 0 or 1 */
+    uint16_t pointer;     /* the order that comes next */
+} panel_registers;
+
+typedef struct {
+    panel_registers registers;
+    uint32_t used; /* records of the journal in use */
+} panel_state;
+
+/* Makes the state fresh. */
+void panel_fresh(panel_state *state);
+
+/* Takes one step. Returns 0, or the number of the stop (1 to 13); a stop leaves everything as it was.
+ * deck: four cells an order (code, r1, r2, at), deck_cells of them. protect: one byte a halfword of memory.
+ * journal: four words a record. */
+uint8_t panel_step(panel_state *state, const uint16_t *deck, size_t deck_cells, uint16_t *memory, size_t memory_halfwords,
+                   const uint8_t *protect, size_t protect_bytes, uint32_t *journal, size_t journal_words);
+
+/* Steps until `limit` steps are taken or one is stopped; the steps taken go to *count. Returns 0, or the number of the
+ * stop (1 to 13); the stopped step leaves everything, earlier steps stand. */
+uint8_t panel_run(panel_state *state, const uint16_t *deck, size_t deck_cells, uint16_t *memory, size_t memory_halfwords,
+                  const uint8_t *protect, size_t protect_bytes, uint32_t *journal, size_t journal_words, uint32_t limit,
+                  uint32_t *count);
+
+/* Takes the last step back. Returns 0, or 2, 3, 14 or 15; a refusal leaves everything as it was. */
+uint8_t panel_back(panel_state *state, uint16_t *memory, size_t memory_halfwords, const uint8_t *protect,
+                   size_t protect_bytes, uint32_t *journal, size_t journal_words);
+
+/* Reads a deck text into cells, memory and protect list. Returns 0 with the order count in *value, or 16 or 17 with the
+ * line in *value; a refused text writes nothing else. */
+uint8_t panel_read(const uint8_t *text, size_t text_bytes, uint16_t *cells, size_t cells_count, uint16_t *memory,
+                   size_t memory_halfwords, uint8_t *protect, size_t protect_bytes, uint32_t *value);
+
+#endif
