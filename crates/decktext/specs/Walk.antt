@@ -27,6 +27,11 @@ pub record Stretch (t : List ℕ) (from end b r : ℕ) : Type 0 where
   pub before : (k : ℕ) → k < r → from ≤ k → getD t k 0 ≡ b → ⊥
   pub found : r < end → getD t r 0 ≡ b
 
+-- r is where the line at a place ends: its LF, or the text's end where no LF follows; past the text there is no line
+pub record LineEnd (t : List ℕ) (at r : ℕ) : Type 0 where
+  pub inside : at ≤ length t → Stretch t at (length t) 10 r
+  pub past : length t < at → r ≡ length t
+
 -- the number of some digits in a base, at most 65,535
 abbrev pub digitIn : ℕ → ℕ → Bool
 digitIn base b = ltb (markedDigit b) base

@@ -9,6 +9,7 @@ use crate::line::sizes_of;
 use crate::line::start;
 use crate::line::value;
 use crate::line::values_wanted;
+use crate::reader::next_line;
 use crate::span::find;
 use crate::value::Value;
 ghost use mathlib.Core.Path.{_≡_};
@@ -54,7 +55,7 @@ fn walk(
     let mut line: u32 = 1;
     let mut fault: u8 = 0;
     'lines: while at < text.len() {
-        let end = find(text, at, text.len(), b'\n');
+        let end = next_line(text, at);
         if end == text.len() {
             fault = 16;
             break 'lines;

@@ -7,6 +7,7 @@ mod digit;
 mod given;
 mod line;
 mod mnemonic;
+mod reader;
 mod span;
 mod value;
 

@@ -1,7 +1,7 @@
 use Rattle.decktext.proofs.Walking.{all, Walking, start, sizes, storable, on, stopped, unfinished, Left, at-end, at-fault, walked}
 use Rattle.decktext.proofs.Parsed.{Taking, start as begin, on as on-value, bad}
 use Rattle.decktext.proofs.Forms.{placed-at, values-at, few, judged, faulty-line, real-fault, by-number}
-use Rattle.decktext.specs.Walk.{wantedOf, givenOf, saysJudged, progressOf, valueCount, valueAs}
+use Rattle.decktext.specs.Walk.{Stretch, wantedOf, givenOf, saysJudged, progressOf, valueCount, valueAs}
 use mathlib.Core.List.{List}
 use Rattle.decktext.specs.Read.{Buffers, Wanted, Progress, buffers, faulty, lineRead}
 use Rattle.decktext.specs.Value.{saysValue}
@@ -44,17 +44,21 @@ progress c = progressOf (c .lines .p) (c .lines .inv .1 .held)
 abbrev wanted-at : tie.At-lines Inv-loop μ-loop Inv-lines μ-lines → Wanted
 wanted-at c = wantedOf (c .lines .p .wanted)
 
+-- the place is inside the text, so the line ends at an LF or at the text's end
+end-at : (c : tie.After-next-line Inv-loop μ-loop Inv-lines μ-lines) → Stretch (text (c .before .before)) (c .before .before .lines .at) (length (text (c .before .before))) 10 (c .next-line .result)
+end-at c = c .next-line .ensures .inside (omega (arith, c .before .lines-test .taken))
+
 -- the line that ends where the LF was found
-abbrev line-at : tie.After-find Inv-loop μ-loop Inv-lines μ-lines → List ℕ
-line-at c = part (c .before .before .lines .at) (c .find .result) (text (c .before .before))
+abbrev line-at : tie.After-next-line Inv-loop μ-loop Inv-lines μ-lines → List ℕ
+line-at c = part (c .before .before .lines .at) (c .next-line .result) (text (c .before .before))
 
 -- the line ends within the text
-ended : (c : tie.Else1 Inv-loop μ-loop Inv-lines μ-lines) → c .before .find .result < length (text (c .before .before .before))
-ended c = let no = c .if1 .left in omega (arith, c .before .find .ensures .high)
+ended : (c : tie.Else1 Inv-loop μ-loop Inv-lines μ-lines) → c .before .next-line .result < length (text (c .before .before .before))
+ended c = let no = c .if1 .left in omega (arith, end-at (c .before) .high)
 
 -- the count of values, by the line's bytes
 counted : (c : tie.After-values-wanted Inv-loop μ-loop Inv-lines μ-lines) → c .values-wanted .result ≡ valueCount (wanted-at (c .before .before .before .before)) (length (line-at (c .before .before)))
-counted c = c .values-wanted .ensures ∙ ap (λ (n : ℕ). valueCount (wanted-at (c .before .before .before .before)) n) (sym (length-part (c .before .before .before .before .lines .at) (c .before .before .find .result) (text (c .before .before .before .before)) (c .before .before .find .ensures .low) (c .before .before .find .ensures .high)))
+counted c = c .values-wanted .ensures ∙ ap (λ (n : ℕ). valueCount (wanted-at (c .before .before .before .before)) n) (sym (length-part (c .before .before .before .before .lines .at) (c .before .before .next-line .result) (text (c .before .before .before .before)) (end-at (c .before .before) .low) (end-at (c .before .before) .high)))
 
 -- what the line is judged to give is what the definition reads
 answer : (c : tie.After-judge Inv-loop μ-loop Inv-lines μ-lines) → lineRead (progress (c .before .before .before .before .before .before .before .before)) (line-at (c .before .before .before .before .before .before)) ≡ saysJudged (c .judge .result)
@@ -69,16 +73,16 @@ answer c =
 bad-value : (c : tie.After-enum-told Inv-loop μ-loop Inv-lines μ-lines) → all (text (c .before .before .before .before .before .before .before .before .before .before .before)) (lent (c .before .before .before .before .before .before .before .before .before .before .before)) ≡ faulty 16 (c .before .before .before .before .before .before .before .before .before .before .before .lines .line)
 unfolding lineRead
 bad-value c =
-    stopped (c .before .before .before .before .before .before .before .before .before .before .before .lines .inv .1) (c .before .before .before .before .before .before .before .before .before .find .ensures) (ended (c .before .before .before .before .before .before .before .before)) 16
+    stopped (c .before .before .before .before .before .before .before .before .before .before .before .lines .inv .1) (end-at (c .before .before .before .before .before .before .before .before .before)) (ended (c .before .before .before .before .before .before .before .before)) 16
     (faulty-line (wanted-at (c .before .before .before .before .before .before .before .before .before .before .before)) (progress (c .before .before .before .before .before .before .before .before .before .before .before)) (line-at (c .before .before .before .before .before .before .before .before .before)) (rw (← counted (c .before .before .before .before .before .before .before)) (omega (arith, c .before .before .before .before .before .loop-test .taken)))
-    (bad (c .before .before .before .before .before .before .loop .inv .1) (c .before .before .before .before .before .loop-test .taken) (c .before .before .before .before .find2 .ensures) (c .before .before .before .before .before .before .before .before .before .find .ensures .high) (sym (c .before .before .value .ensures) ∙ ap saysValue (c .enum-told .given .1))))
+    (bad (c .before .before .before .before .before .before .loop .inv .1) (c .before .before .before .before .before .loop-test .taken) (c .before .before .before .before .find .ensures) (end-at (c .before .before .before .before .before .before .before .before .before) .high) (sym (c .before .before .value .ensures) ∙ ap saysValue (c .enum-told .given .1))))
 
 -- a line that is of another form, or doesn't fit
 numbered : (c : tie.After-fault-of Inv-loop μ-loop Inv-lines μ-lines) → saysJudged (c .before .before .before .judge .result) ≡ stops (c .fault-of .result)
 numbered c = by-number _ _ _ (c .before .enum-told2 .given .1) (c .fault-of .ensures)
 
 bad-line : (c : tie.After-fault-of Inv-loop μ-loop Inv-lines μ-lines) → all (text (c .before .before .before .before .before .before .before .before .before .before .before)) (lent (c .before .before .before .before .before .before .before .before .before .before .before)) ≡ faulty (c .fault-of .result) (c .before .before .before .before .before .before .before .before .before .before .before .lines .line)
-bad-line c = stopped (c .before .before .before .before .before .before .before .before .before .before .before .lines .inv .1) (c .before .before .before .before .before .before .before .before .before .find .ensures) (ended (c .before .before .before .before .before .before .before .before)) (c .fault-of .result) (answer (c .before .before .before) ∙ numbered c)
+bad-line c = stopped (c .before .before .before .before .before .before .before .before .before .before .before .lines .inv .1) (end-at (c .before .before .before .before .before .before .before .before .before)) (ended (c .before .before .before .before .before .before .before .before)) (c .fault-of .result) (answer (c .before .before .before) ∙ numbered c)
 
 -- what a line gives
 given : (c : tie.After-known-told2 Inv-loop μ-loop Inv-lines μ-lines) → lineRead (progress (c .before .before .before .before .before .before .before .before .before .before .before)) (line-at (c .before .before .before .before .before .before .before .before .before)) ≡ gives (givenOf (c .before .judged .given .0 .0))
@@ -90,13 +94,13 @@ left c =
     ⊎-elim
     (λ w. at-end (c .before .lines .inv .1) (w .0 .left) (c .lines-test .fault) (w .1 ∙ c .before .lines .inv .0))
     (⊎-elim
-    (λ w. at-fault (c .before .lines .inv .1) (c .lines-test .fault) (λ z. let e = w .3 in omega arith) (rw (w .3) (unfinished (c .before .lines .inv .1) (w .1 .ensures) (w .0 .taken) (w .2 .taken))))
+    (λ w. at-fault (c .before .lines .inv .1) (c .lines-test .fault) (λ z. let e = w .3 in omega arith) (rw (w .3) (unfinished (c .before .lines .inv .1) (w .1 .ensures .inside (omega (arith, w .0 .taken))) (w .0 .taken) (w .2 .taken))))
     (⊎-elim
     (λ w.
-    let d : tie.After-enum-told Inv-loop μ-loop Inv-lines μ-lines = record { before = record { before = record { before = record { before = record { before = record { before = record { before = record { before = record { before = record { before = record { before = c .before; lines-test = w .0 }; find = w .1 }; if1 = w .2 }; values-wanted = w .3 }; loop = w .4 }; loop-test = w .5 }; find2 = w .6 }; value-arg = w .7 }; value = w .8 }; match = w .9 }; enum-told = w .10 } in
+    let d : tie.After-enum-told Inv-loop μ-loop Inv-lines μ-lines = record { before = record { before = record { before = record { before = record { before = record { before = record { before = record { before = record { before = record { before = record { before = c .before; lines-test = w .0 }; next-line = w .1 }; if1 = w .2 }; values-wanted = w .3 }; loop = w .4 }; loop-test = w .5 }; find = w .6 }; value-arg = w .7 }; value = w .8 }; match = w .9 }; enum-told = w .10 } in
     at-fault (c .before .lines .inv .1) (c .lines-test .fault) (λ z. let e = w .11 in omega arith) (rw (w .11) (bad-value d)))
     (λ w.
-    let d : tie.After-fault-of Inv-loop μ-loop Inv-lines μ-lines = record { before = record { before = record { before = record { before = record { before = record { before = record { before = record { before = record { before = record { before = record { before = c .before; lines-test = w .0 }; find = w .1 }; if1 = w .2 }; values-wanted = w .3 }; loop = w .4 }; loop-test = w .5 }; judge-arg = w .6 }; judge = w .7 }; match2 = w .8 }; enum-told2 = w .9 }; fault-of = w .10 } in
+    let d : tie.After-fault-of Inv-loop μ-loop Inv-lines μ-lines = record { before = record { before = record { before = record { before = record { before = record { before = record { before = record { before = record { before = record { before = record { before = c .before; lines-test = w .0 }; next-line = w .1 }; if1 = w .2 }; values-wanted = w .3 }; loop = w .4 }; loop-test = w .5 }; judge-arg = w .6 }; judge = w .7 }; match2 = w .8 }; enum-told2 = w .9 }; fault-of = w .10 } in
     at-fault (c .before .lines .inv .1) (c .lines-test .fault) (λ z. real-fault (wanted-at (c .before)) (progress (c .before)) (part (c .before .lines .at) (w .1 .result) (text (c .before))) (w .4 .values) (sym (numbered d) ∙ w .7 .ensures (c .before .lines .inv .1 .held) (c .before .lines .inv .1 .sized)) (sym (w .11) ∙ z)) (rw (w .11) (bad-line d)))))
     (c .lines-test .came)
 
@@ -109,20 +113,20 @@ start-requires c κs = search needs
 lines-holds : tie.Need-lines-holds Inv-loop μ-loop Inv-lines μ-lines
 lines-holds c = (refl, start (record { cells = sym (c .before .sizes-of .ensures .0); memory = sym (c .before .sizes-of .ensures .1); protect = sym (c .before .sizes-of .ensures .2) }) (c .start .ensures (buffers (c .before .before .before .before .before .before .args .cells .now) (c .before .before .before .before .before .before .args .memory .now) (c .before .before .before .before .before .before .args .protect .now))))
 
-find-requires : tie.Need-find-requires Inv-loop μ-loop Inv-lines μ-lines
-find-requires c κs = omega arith
+next-line-requires : tie.Need-next-line-requires Inv-loop μ-loop Inv-lines μ-lines
+next-line-requires c κs = search needs
 
 sub-values-wanted : tie.Need-sub-values-wanted Inv-loop μ-loop Inv-lines μ-lines
-sub-values-wanted c = omega arith
+sub-values-wanted c = omega (arith, end-at (c .before) .low)
 
 values-wanted-requires : tie.Need-values-wanted-requires Inv-loop μ-loop Inv-lines μ-lines
 values-wanted-requires c κs = search needs
 
 loop-holds : tie.Need-loop-holds Inv-loop μ-loop Inv-lines μ-lines
-loop-holds c = (refl, begin (c .values-wanted .result) _ (rw (c .values-wanted .ensures) (few (wanted-at (c .before .before .before .before)) (c .before .before .find .result - c .before .before .before .before .lines .at))) (c .before .before .find .ensures .low) refl)
+loop-holds c = (refl, begin (c .values-wanted .result) _ (rw (c .values-wanted .ensures) (few (wanted-at (c .before .before .before .before)) (c .before .before .next-line .result - c .before .before .before .before .lines .at))) (end-at (c .before .before) .low) refl)
 
-find-requires-2 : tie.Need-find-requires-2 Inv-loop μ-loop Inv-lines μ-lines
-find-requires-2 c κs = (c .before .loop .inv .1 .inside (c .loop-test .taken), c .before .before .before .before .find .ensures .high)
+find-requires : tie.Need-find-requires Inv-loop μ-loop Inv-lines μ-lines
+find-requires c κs = (c .before .loop .inv .1 .inside (c .loop-test .taken), end-at (c .before .before .before .before) .high)
 
 sub-value : tie.Need-sub-value Inv-loop μ-loop Inv-lines μ-lines
 sub-value c = omega arith
@@ -131,7 +135,7 @@ part-value-start : tie.Need-part-value-start Inv-loop μ-loop Inv-lines μ-lines
 part-value-start c = omega arith
 
 part-value-end : tie.Need-part-value-end Inv-loop μ-loop Inv-lines μ-lines
-part-value-end c = omega arith
+part-value-end c = omega (arith, end-at (c .before .before .before .before .before) .high)
 
 value-requires : tie.Need-value-requires Inv-loop μ-loop Inv-lines μ-lines
 value-requires c κs = search needs
@@ -149,7 +153,7 @@ array-write-values : tie.Need-array-write-values Inv-loop μ-loop Inv-lines μ-l
 array-write-values c = omega arith
 
 add-from : tie.Need-add-from Inv-loop μ-loop Inv-lines μ-lines
-add-from c = omega arith
+add-from c = omega (arith, end-at (c .before .before .before .before .before .before .before .before .before .before) .high)
 
 add-i : tie.Need-add-i Inv-loop μ-loop Inv-lines μ-lines
 add-i c = omega arith
@@ -160,19 +164,19 @@ loop-less c = omega arith
 loop-again : tie.Need-loop-again Inv-loop μ-loop Inv-lines μ-lines
 loop-again c = (
   c .before .before .before .before .before .before .before .loop .inv .0,
-  on-value (c .before .before .before .before .before .before .before .loop .inv .1) (c .before .before .before .before .before .before .loop-test .taken) (c .before .before .before .before .before .find2 .ensures) (c .before .before .before .before .before .before .before .before .before .before .find .ensures .high)
+  on-value (c .before .before .before .before .before .before .before .loop .inv .1) (c .before .before .before .before .before .before .loop-test .taken) (c .before .before .before .before .before .find .ensures) (end-at (c .before .before .before .before .before .before .before .before .before .before) .high)
       (placed-at (wanted-at (c .before .before .before .before .before .before .before .before .before .before .before .before)) _ (c .before .before .before .before .before .before .before .before .values-wanted .result) (c .before .before .before .before .before .before .before .before .values-wanted .ensures) (omega (arith, c .before .before .before .before .before .before .loop-test .taken)))
       (c .before .v .given .0 .0) (sym (c .before .before .before .value .ensures) ∙ ap saysValue (c .before .v .given .1)),
 )
 
 sub-judge : tie.Need-sub-judge Inv-loop μ-loop Inv-lines μ-lines
-sub-judge c = omega arith
+sub-judge c = omega (arith, end-at (c .before .before .before .before) .low)
 
 part-judge-start : tie.Need-part-judge-start Inv-loop μ-loop Inv-lines μ-lines
-part-judge-start c = omega arith
+part-judge-start c = omega (arith, end-at (c .before .before .before .before) .low)
 
 part-judge-end : tie.Need-part-judge-end Inv-loop μ-loop Inv-lines μ-lines
-part-judge-end c = omega arith
+part-judge-end c = omega (arith, end-at (c .before .before .before .before) .high)
 
 judge-requires : tie.Need-judge-requires Inv-loop μ-loop Inv-lines μ-lines
 judge-requires c κs = omega (arith, c .before .before .before .before .before .before .before .lines .inv .1 .orders, c .before .before .before .before .before .before .lines-test .taken, c .before .before .before .before .before .before .before .before .before .before .before .before .before .before .pre)
@@ -193,18 +197,18 @@ advance-requires : tie.Need-advance-requires Inv-loop μ-loop Inv-lines μ-lines
 advance-requires c κs = omega (arith, c .before .before .before .before .before .before .before .before .before .before .before .before .before .before .before .before .before .before .before .before .before .lines .inv .1 .orders, c .before .before .before .before .before .before .before .before .before .before .before .before .before .before .before .before .before .before .before .before .lines-test .taken, c .before .before .before .before .before .before .before .before .before .before .before .before .before .before .before .before .before .before .before .before .before .before .before .before .before .before .before .before .pre)
 
 add-at : tie.Need-add-at Inv-loop μ-loop Inv-lines μ-lines
-add-at c = omega (arith, c .before .before .before .before .before .before .before .before .before .before .before .before .before .before .before .before .before .before .before .before .find .ensures .high, c .before .before .before .before .before .before .before .before .before .before .before .before .before .before .before .before .before .before .before .before .before .before .before .before .before .before .before .before .before .pre)
+add-at c = omega (arith, end-at (c .before .before .before .before .before .before .before .before .before .before .before .before .before .before .before .before .before .before .before .before) .high, c .before .before .before .before .before .before .before .before .before .before .before .before .before .before .before .before .before .before .before .before .before .before .before .before .before .before .before .before .before .pre)
 
 add-line : tie.Need-add-line Inv-loop μ-loop Inv-lines μ-lines
 add-line c = omega (arith, c .before .before .before .before .before .before .before .before .before .before .before .before .before .before .before .before .before .before .before .before .before .before .lines .inv .1 .lines, c .before .before .before .before .before .before .before .before .before .before .before .before .before .before .before .before .before .before .before .before .before .before .lines .inv .1 .reach, c .before .before .before .before .before .before .before .before .before .before .before .before .before .before .before .before .before .before .before .before .before .before .before .before .before .before .before .before .before .pre)
 
 lines-less : tie.Need-lines-less Inv-loop μ-loop Inv-lines μ-lines
-lines-less c = omega (arith, c .before .before .before .before .before .before .before .before .before .before .before .before .before .before .before .before .before .before .before .before .find .ensures .low, c .before .before .before .before .before .before .before .before .before .before .before .before .before .before .before .before .before .before .before .before .find .ensures .high, ended (c .before .before .before .before .before .before .before .before .before .before .before .before .before .before .before .before .before .before .before))
+lines-less c = omega (arith, end-at (c .before .before .before .before .before .before .before .before .before .before .before .before .before .before .before .before .before .before .before .before) .low, end-at (c .before .before .before .before .before .before .before .before .before .before .before .before .before .before .before .before .before .before .before .before) .high, ended (c .before .before .before .before .before .before .before .before .before .before .before .before .before .before .before .before .before .before .before))
 
 lines-again : tie.Need-lines-again Inv-loop μ-loop Inv-lines μ-lines
 lines-again c = (
   c .before .before .before .before .before .before .before .before .before .before .before .before .before .before .before .before .before .loop .inv .0 ∙ c .before .before .before .before .before .before .before .before .before .before .before .before .before .before .before .before .before .before .before .before .before .before .lines .inv .0,
-  on (c .before .before .before .before .before .before .before .before .before .before .before .before .before .before .before .before .before .before .before .before .before .before .lines .inv .1) (c .before .before .before .before .before .before .before .before .before .before .before .before .before .before .before .before .before .before .before .before .find .ensures) (ended (c .before .before .before .before .before .before .before .before .before .before .before .before .before .before .before .before .before .before .before)) (givenOf (c .before .before .before .before .before .before .before .before .before .before .before .before .judged .given .0 .0)) (given (c .before .before .before .before .before .before .before .before .before .before .before))
+  on (c .before .before .before .before .before .before .before .before .before .before .before .before .before .before .before .before .before .before .before .before .before .before .lines .inv .1) (end-at (c .before .before .before .before .before .before .before .before .before .before .before .before .before .before .before .before .before .before .before .before)) (ended (c .before .before .before .before .before .before .before .before .before .before .before .before .before .before .before .before .before .before .before)) (givenOf (c .before .before .before .before .before .before .before .before .before .before .before .before .judged .given .0 .0)) (given (c .before .before .before .before .before .before .before .before .before .before .before))
       (c .advance .result) (c .advance .ensures) _ (c .before .before .before .before .before .before .before .store .ensures),
 )
 
@@ -234,11 +238,11 @@ walk-spec =
     sizes-of-requires
     start-requires
     lines-holds
-    find-requires
+    next-line-requires
     sub-values-wanted
     values-wanted-requires
     loop-holds
-    find-requires-2
+    find-requires
     sub-value
     part-value-start
     part-value-end
