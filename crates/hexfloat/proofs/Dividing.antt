@@ -12,13 +12,15 @@ pub record Dividing (d n a b q rest left : ℕ) : Type 0 where
   pub within : left ≤ n
   pub whole : (q * b + rest) * 16 ^ left ≡ a * 16 ^ n
   pub small : rest < 16 ^ d
+  pub near : rest < b * 16
   pub reduced : left < n → rest < b
 
-pub start : {d n a b : ℕ} → a < 16 ^ d → Dividing d n a b 0 a n
-start {d} {n} {a} {b} h = record {
+pub start : {d n a b : ℕ} → a < 16 ^ d → a < b * 16 → Dividing d n a b 0 a n
+start {d} {n} {a} {b} h near = record {
   within = le-refl n;
   whole = ap (λ (x : ℕ). x * 16 ^ n) (ap (λ (x : ℕ). x + a) (zero-mul b) ∙ zero-add a);
   small = h;
+  near = near;
   reduced = λ l. let no : ⊥ = omega arith in absurd no;
 }
 
@@ -31,15 +33,11 @@ module _ {d n a b q rest left : ℕ} (r : Dividing d n a b q rest left) where
       (le-trans (le-of-eq (mul-right-comm q (16 ^ left) b)) (le-trans (mul-le-mul-right (16 ^ left) (le-add-right (q * b) rest)) (le-of-eq (r .whole))))
       (lt-of-lt-of-le (mul-lt-mul-of-pos-right near (pos n)) (le-of-eq (ap (λ (x : ℕ). x * 16 ^ n) (mul-comm b 16) ∙ mul-right-comm 16 b (16 ^ n)))))
 
-  -- so it can be moved left by any of them in a u64, and so can the remainder
+  -- so it can be moved left by any of them in a u64
   pub fits : 0 < b → a < b * 16 → n ≤ 14 → (k : ℕ) → k ≤ left → q * 16 ^ k < 2 ^ 64
   fits p near few k h =
       lt-of-le-of-lt (mul-le-mul-left q (mono h))
       (lt-of-lt-of-le (room p near) (le-trans (le-of-eq (mul-comm 16 (16 ^ n) ∙ sym (pow-suc 16 n))) (mono {j = 16} (omega arith))))
-
-  pub rest-fits : (k : ℕ) → d + k ≤ 16 → rest * 16 ^ k < 2 ^ 64
-  rest-fits k h =
-      lt-of-lt-of-le (mul-lt-mul-of-pos-right (r .small) (pos k)) (le-trans (le-of-eq (sym (pow-add 16 d k))) (mono {j = 16} h))
 
   -- a turn of k digits
   pub on : (k : ℕ) → 0 < b → b ≤ 16 ^ d → 0 < k → k ≤ left → Dividing d n a b (q * 16 ^ k + rest * 16 ^ k / b) (rest * 16 ^ k % b) (left - k)
@@ -51,6 +49,7 @@ module _ {d n a b q rest left : ℕ} (r : Dividing d n a b q rest left) where
         ∙ ap (λ (x : ℕ). (q * b + rest) * x) (sym (pow-add 16 k (left - k)) ∙ ap (λ (x : ℕ). 16 ^ x) (omega arith))
         ∙ r .whole;
     small = lt-of-lt-of-le (mod-lt (rest * 16 ^ k) p) wide;
+    near = let h : rest * 16 ^ k % b < b = mod-lt (rest * 16 ^ k) p in omega arith;
     reduced = λ l. mod-lt (rest * 16 ^ k) p;
   }
     where

@@ -13,3 +13,4 @@ pub mod Normals
 pub mod Quotients
 pub mod Ratio
 pub mod Theorems
+pub mod Turns

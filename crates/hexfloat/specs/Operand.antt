@@ -1,7 +1,8 @@
 -- What the private functions of the crate hand each other: operands in range, and their normalised form (8.3).
-use Prim.Native.Nat.{ℕ, _+_, _-_, _*_, _^_, _≤_, _<_}
+use Prim.Native.Nat.{ℕ, _+_, _-_, _*_, _/_, _%_, _^_, _≤_, _<_}
 use mathlib.Core.Bool.{cond}
 use lib.Dec.{ltb, eqb}
+use Rattle.hexfloat.specs.declared.divide.Turn.{Turn}
 use Rattle.hexfloat.specs.declared.normal.Normal.{Normal}
 use Rattle.hexfloat.specs.declared.word.Parts.{Parts}
 use Rattle.hexfloat.specs.Normal.{digits}
@@ -37,3 +38,22 @@ pub record Dividends (d n a b : ℕ) : Type 0 where
 -- of two normalised fractions: 1 where their quotient has a digit before the point, else 0
 abbrev pub leadOf : ℕ → ℕ → ℕ
 leadOf a b = cond (ltb a b) 0 1
+
+-- a turn of the division: q * b + rest over b
+abbrev pub settled : ℕ → ℕ → ℕ → Turn
+settled q rest b = record { digits = (q * b + rest) / b; rest = (q * b + rest) % b }
+
+-- k digits more: rest * 16^k over b
+abbrev pub turned : ℕ → ℕ → ℕ → Turn
+turned k rest b = settled 0 (rest * 16 ^ k) b
+
+pub record Settling (q rest b : ℕ) : Type 0 where
+  pub positive : 0 < b
+  pub fits : q * b + rest < 2 ^ 64 * b
+
+pub record Turning (k rest b : ℕ) : Type 0 where
+  pub few : k ≤ 7
+  pub positive : 0 < b
+  pub divisor : b < 16 ^ 14
+  pub remainder : rest < 16 ^ 14
+  pub near : rest < b * 16

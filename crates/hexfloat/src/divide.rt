@@ -2,8 +2,8 @@
 use crate::word::Long;
 use crate::word::Parts;
 ghost use mathlib.Core.Path.{_≡_};
-ghost use Prim.Native.Nat.{_+_, _*_, _/_, _^_, min};
-ghost use Rattle.hexfloat.specs.Operand.{Operand, Dividends, leadOf};
+ghost use Prim.Native.Nat.{_*_, _/_, _<_, _^_, min};
+ghost use Rattle.hexfloat.specs.Operand.{Operand, Dividends, Turning, Settling, settled, turned, leadOf};
 ghost use Rattle.hexfloat.specs.Word.{trueZero};
 ghost use Rattle.hexfloat.specs.Divide.{saysShort, saysLong, saysParts, quotient, shortQuotient, longQuotient, underflow};
 
@@ -120,8 +120,7 @@ fn on_underflow(mask: bool) -> Quotient
     }
 }
 
-// a * 16^n / b, cut toward zero, in turns of 16 - d digits: as many as a remainder of d digits
-// leaves room for in a u64. So 6 digits take one turn and 14 take seven.
+// a * 16^n / b, cut toward zero, in turns of at most seven digits: one turn for 6 digits, two for 14.
 fn leading_digits(d: u32, n: u32, a: u64, b: u64) -> u64
     requires { ⌜ Dividends d n a b ⌝ }
     ensures { λ r. ⌜ r ≡ a * 16 ^ n / b ⌝ }
@@ -130,13 +129,62 @@ fn leading_digits(d: u32, n: u32, a: u64, b: u64) -> u64
     let mut rest = a;
     let mut left = n;
     while 0 < left {
-        let k = least(left, 16 - d);
-        let shifted = rest << (4 * k);
-        q = (q << (4 * k)) + shifted / b;
-        rest = shifted % b;
+        let k = least(left, 7);
+        let t = take_turn(k, rest, b);
+        q = (q << (4 * k)) + t.digits;
+        rest = t.rest;
         left -= k;
     }
     q
+}
+
+// What a turn of k digits adds to the quotient, and what it leaves.
+pub struct Turn {
+    pub digits: u64,
+    pub rest: u64,
+}
+
+// rest * 16^k over b. Where that is wider than a u64, the digits are estimated from below by the
+// divisor's leading digits; the estimate is at most a few too small.
+fn take_turn(k: u32, rest: u64, b: u64) -> Turn
+    requires { ⌜ Turning k rest b ⌝ }
+    ensures { λ r. ⌜ r ≡ turned k rest b ⌝ }
+{
+    if k <= 2 {
+        return direct(rest << (4 * k), b);
+    }
+    if rest < 0x10_0000_0000 {
+        return direct(rest << (4 * k), b);
+    }
+    let e = (rest << 8) / ((b >> (4 * (k - 2))) + 1);
+    let h = b >> (4 * k);
+    let high = rest - e * h;
+    let low = b - (h << (4 * k));
+    settle(e, (high << (4 * k)) - e * low, b)
+}
+
+fn direct(shifted: u64, b: u64) -> Turn
+    requires { ⌜ 0 < b ⌝ }
+    ensures { λ r. ⌜ r ≡ settled 0 shifted b ⌝ }
+{
+    Turn {
+        digits: shifted / b,
+        rest: shifted % b,
+    }
+}
+
+// (q * b + rest) over b, where rest is a few times b at most.
+fn settle(q: u64, rest: u64, b: u64) -> Turn
+    requires { ⌜ Settling q rest b ⌝ }
+    ensures { λ r. ⌜ r ≡ settled q rest b ⌝ }
+{
+    let mut digits = q;
+    let mut left = rest;
+    while b <= left {
+        digits += 1;
+        left -= b;
+    }
+    Turn { digits, rest: left }
 }
 
 fn least(a: u32, b: u32) -> u32

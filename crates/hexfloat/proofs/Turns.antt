@@ -1,0 +1,166 @@
+-- A turn of the division, where the dividend is wider than a word: an estimate from below by the divisor's leading digits, and what it leaves.
+use mathlib.Core.Path.{_≡_, sym, ap, _∙_}
+use Prim.Native.Nat.{ℕ, suc, _+_, _-_, _*_, _/_, _%_, _^_, _≤_, _<_}
+use native.Mathlib.Nat.{sub-add-cancel, add-comm, le-trans, le-of-eq, le-of-lt, lt-of-lt-of-le, lt-of-le-of-lt, le-refl, suc-mul, mul-assoc, mul-comm, mul-add, add-mul, mul-le-mul-right, mul-le-mul-left, mul-lt-mul-of-pos-right, lt-of-mul-lt-mul-right, le-of-mul-le-mul-right, div-mul-le-self, lt-div-mul-add, zero-mul, zero-add, le-add-right, add-le-add, mul-le-mul}
+use native.Mathlib.Omega.{arith}
+use lib.Arith.{digits-div, digits-mod}
+use lib.Pow.{pow-add}
+use Rattle.hexfloat.specs.Operand.{Turning, Settling, settled}
+use Rattle.hexfloat.proofs.Digits.{pos, mono}
+
+-- the same whole is settled in the same way
+pub same-whole : (q r q′ r′ b : ℕ) → q * b + r ≡ q′ * b + r′ → settled q r b ≡ settled q′ r′ b
+same-whole q r q′ r′ b e = ap (λ (x : ℕ). record { digits = x / b; rest = x % b }) e
+
+-- with nothing taken before, it is the quotient and the remainder
+pub plain : (x b : ℕ) → settled 0 x b ≡ record { digits = x / b; rest = x % b }
+plain x b = ap (λ (y : ℕ). record { digits = y / b; rest = y % b }) (ap (λ (y : ℕ). y + x) (zero-mul b) ∙ zero-add x)
+
+-- a number of i digits can be moved left by k in a u64
+pub shift-fits : (i k rest : ℕ) → rest < 16 ^ i → i + k ≤ 16 → rest * 16 ^ k < 2 ^ 64
+shift-fits i k rest h w = lt-of-lt-of-le (mul-lt-mul-of-pos-right h (pos k)) (le-trans (le-of-eq (sym (pow-add 16 i k))) (mono {j = 16} w))
+
+-- the digits of a turn fit a u64
+pub turn-fits : (k rest b : ℕ) → Turning k rest b → rest * 16 ^ k < 2 ^ 64 * b
+turn-fits k rest b t =
+    lt-of-lt-of-le (mul-lt-mul-of-pos-right (t .near) (pos k))
+    (le-trans (le-of-eq (mul-assoc b 16 (16 ^ k) ∙ mul-comm b (16 * 16 ^ k))) (mul-le-mul-right b (le-trans (le-of-eq (sym (pow-add 16 1 k))) (mono {j = 16} (omega (arith, t .few))))))
+
+-- a remainder below the divisor is settled
+pub done : (q r b : ℕ) → r < b → record { digits = q; rest = r } ≡ settled q r b
+done q r b h = λ i. record { digits = sym (digits-div q h) i; rest = sym (digits-mod q h) i }
+
+-- one more digit taken out of the remainder
+pub one-more : (q r b : ℕ) → b ≤ r → (q + 1) * b + (r - b) ≡ q * b + r
+one-more q r b h = ap (λ (x : ℕ). x + (r - b)) (add-mul q 1 b ∙ ap (λ (x : ℕ). q * b + x) (one b)) ∙ move (q * b)
+  where
+    one : (b : ℕ) → 1 * b ≡ b
+    one b = omega arith
+
+    move : (x : ℕ) → x + b + (r - b) ≡ x + r
+    move x = omega arith
+
+pub one-more-fits : (q r b : ℕ) → Settling q r b → b ≤ r → q + 1 < 2 ^ 64
+one-more-fits q r b s h =
+    lt-of-mul-lt-mul-right b (lt-of-le-of-lt (le-trans (le-add-right ((q + 1) * b) (r - b)) (le-of-eq (one-more q r b h))) (s .fits))
+
+pub falls : (r b : ℕ) → 0 < b → b ≤ r → r - b < r
+falls r b p h = omega arith
+
+-- rest * 16^k against b, with the estimate e by m, which is more than b's leading digits
+module _ (k rest b e : ℕ) where
+  abbrev pub leading : ℕ
+  leading = b / 16 ^ (k - 2) + 1
+
+  abbrev pub high : ℕ
+  high = b / 16 ^ k
+
+  module _ (t : Turning k rest b) (wide : 2 < k) (is : e ≡ rest * 256 / leading) where
+    split : 256 * 16 ^ (k - 2) ≡ 16 ^ k
+    split = sym (pow-add 16 2 (k - 2)) ∙ ap (λ (x : ℕ). 16 ^ x) (omega arith)
+
+    leading-pos : 0 < leading
+    leading-pos = omega arith
+
+    -- m times its power is above b, and by no more than the power
+    above : b < leading * 16 ^ (k - 2)
+    above = lt-of-lt-of-le (lt-div-mul-add (pos (k - 2))) (le-of-eq (sym (add-mul (b / 16 ^ (k - 2)) 1 (16 ^ (k - 2)) ∙ ap (λ (x : ℕ). b / 16 ^ (k - 2) * 16 ^ (k - 2) + x) (one (16 ^ (k - 2))))))
+      where
+        one : (x : ℕ) → 1 * x ≡ x
+        one x = omega arith
+
+    -- the estimate is from below
+    pub below : e * b ≤ rest * 16 ^ k
+    below =
+        le-trans (mul-le-mul-left e (le-of-lt above))
+        (le-trans (le-of-eq (sym (mul-assoc e leading (16 ^ (k - 2)))))
+        (le-trans (mul-le-mul-right (16 ^ (k - 2)) (le-trans (le-of-eq (ap (λ (x : ℕ). x * leading) is)) (div-mul-le-self (rest * 256) leading)))
+        (le-of-eq (mul-assoc rest 256 (16 ^ (k - 2)) ∙ ap (λ (x : ℕ). rest * x) split))))
+
+    abbrev pub low : ℕ
+    low = b - high * 16 ^ k
+
+    parts : low + high * 16 ^ k ≡ b
+    parts = sub-add-cancel (div-mul-le-self b (16 ^ k))
+
+    -- what is left of the digits above
+    pub under : e * high ≤ rest
+    under =
+        le-of-mul-le-mul-right
+        (le-trans (le-of-eq (mul-assoc e high (16 ^ k))) (le-trans (mul-le-mul-left e (div-mul-le-self b (16 ^ k))) below)) (pos k)
+
+    abbrev pub up : ℕ
+    up = rest - e * high
+
+    product : e * b ≡ e * low + e * high * 16 ^ k
+    product = ap (λ (x : ℕ). e * x) (sym parts) ∙ mul-add e low (high * 16 ^ k) ∙ ap (λ (x : ℕ). e * low + x) (sym (mul-assoc e high (16 ^ k)))
+
+    whole : rest * 16 ^ k ≡ up * 16 ^ k + e * high * 16 ^ k
+    whole = ap (λ (x : ℕ). x * 16 ^ k) (sym (sub-add-cancel under)) ∙ add-mul up (e * high) (16 ^ k)
+
+    pub enough : e * low ≤ up * 16 ^ k
+    enough = cancel (e * low) (up * 16 ^ k) (e * high * 16 ^ k) (le-trans (le-of-eq (sym product)) (le-trans below (le-of-eq whole)))
+      where
+        cancel : (x y z : ℕ) → x + z ≤ y + z → x ≤ y
+        cancel x y z h = omega arith
+
+    abbrev pub left : ℕ
+    left = up * 16 ^ k - e * low
+
+    -- the estimate and what it leaves are the whole
+    pub kept : e * b + left ≡ rest * 16 ^ k
+    kept = ap (λ (x : ℕ). x + left) product ∙ regroup (e * low) (e * high * 16 ^ k) (up * 16 ^ k) enough ∙ sym whole
+      where
+        regroup : (x y z : ℕ) → x ≤ z → x + y + (z - x) ≡ z + y
+        regroup x y z h = omega arith
+
+    pub few : e < 16 ^ 8
+    few =
+        lt-of-lt-of-le (lt-of-mul-lt-mul-right b (lt-of-le-of-lt below (lt-of-lt-of-le (mul-lt-mul-of-pos-right (t .near) (pos k)) (le-of-eq (turn-round b (16 ^ k))))))
+        (le-trans (le-of-eq (sym (pow-add 16 1 k))) (mono {j = 8} (omega (arith, t .few))))
+      where
+        turn-round : (b x : ℕ) → b * 16 * x ≡ 16 * x * b
+        turn-round b x = mul-assoc b 16 x ∙ mul-comm b (16 * x)
+
+    low-most : low < 16 ^ k
+    low-most = cancel low (16 ^ k) (high * 16 ^ k) (lt-of-le-of-lt (le-of-eq parts) (lt-of-lt-of-le (lt-div-mul-add (pos k)) (le-of-eq (add-comm (high * 16 ^ k) (16 ^ k)))))
+      where
+        cancel : (x y z : ℕ) → x + z < y + z → x < y
+        cancel x y z h = omega arith
+
+    -- what is left is little more than the divisor
+    left-most : left < b + suc e * 16 ^ (k - 2)
+    left-most = cancel left (b + suc e * 16 ^ (k - 2)) (e * b) (lt-of-le-of-lt (le-of-eq kept) (lt-of-lt-of-le reach (le-of-eq spread)))
+      where
+        cancel : (x y z : ℕ) → z + x < y + z → x < y
+        cancel x y z h = omega arith
+
+        over : rest * 256 < suc e * leading
+        over = lt-of-lt-of-le (lt-div-mul-add leading-pos) (le-of-eq (sym (suc-mul e leading ∙ ap (λ (x : ℕ). x * leading + leading) is)))
+
+        near-above : leading * 16 ^ (k - 2) ≤ b + 16 ^ (k - 2)
+        near-above = le-trans (le-of-eq (add-mul (b / 16 ^ (k - 2)) 1 (16 ^ (k - 2)))) (add-le-add (div-mul-le-self b (16 ^ (k - 2))) (le-of-eq (one (16 ^ (k - 2)))))
+          where
+            one : (x : ℕ) → 1 * x ≡ x
+            one x = omega arith
+
+        reach : rest * 16 ^ k < suc e * (b + 16 ^ (k - 2))
+        reach =
+            lt-of-le-of-lt (le-of-eq (ap (λ (x : ℕ). rest * x) (sym split) ∙ sym (mul-assoc rest 256 (16 ^ (k - 2)))))
+            (lt-of-lt-of-le (mul-lt-mul-of-pos-right over (pos (k - 2))) (le-trans (le-of-eq (mul-assoc (suc e) leading (16 ^ (k - 2)))) (mul-le-mul-left (suc e) near-above)))
+
+        spread : suc e * (b + 16 ^ (k - 2)) ≡ b + suc e * 16 ^ (k - 2) + e * b
+        spread = mul-add (suc e) b (16 ^ (k - 2)) ∙ ap (λ (x : ℕ). x + suc e * 16 ^ (k - 2)) (suc-mul e b) ∙ swap (e * b) b (suc e * 16 ^ (k - 2))
+          where
+            swap : (x y z : ℕ) → x + y + z ≡ y + z + x
+            swap x y z = omega arith
+
+    -- so it fits a u64 with what is taken from it
+    pub fits : up * 16 ^ k < 2 ^ 64
+    fits =
+        let small : suc e * 16 ^ (k - 2) ≤ 16 ^ 13 = le-trans (mul-le-mul few (mono {j = 5} (omega (arith, t .few)))) (le-refl (16 ^ 13)) in
+        let taken : e * low ≤ 16 ^ 15 = le-trans (mul-le-mul (le-of-lt few) (le-trans (le-of-lt low-most) (mono {j = 7} (t .few)))) (le-refl (16 ^ 15)) in
+        total (up * 16 ^ k) (e * low) (suc e * 16 ^ (k - 2)) enough left-most small taken (t .divisor)
+      where
+        total : (x y z : ℕ) → y ≤ x → x - y < b + z → z ≤ 16 ^ 13 → y ≤ 16 ^ 15 → b < 16 ^ 14 → x < 2 ^ 64
+        total x y z h l s u d = omega arith
