@@ -2,56 +2,43 @@
 use crate::case::Case;
 use hexfloat::Coded;
 use hexfloat::Fixed;
-use hexfloat::Long;
-use hexfloat::LongQuotient;
-use hexfloat::ShortQuotient;
+use hexfloat::Result;
+use hexfloat::Width;
+use hexfloat::Words;
 
 pub struct Answer {
-    pub words: Long,
+    pub words: Words,
     pub stop: u8,
     // 4 where the order sets none
-    pub code: u8,
+    pub condition: u8,
 }
 
-const NO_CODE: u8 = 4;
+const NO_CONDITION: u8 = 4;
 
 pub fn run(c: Case) -> Answer {
-    let a = c.a;
-    let b = c.b;
     let op = c.op;
     match op {
-        b'd' => short_quotient(hexfloat::divide_short(c.mask, a.high, b.high)),
-        b'D' => long_quotient(hexfloat::divide_long(c.mask, a, b)),
-        b'c' => coded(Coded {
-            word: 0,
-            code: hexfloat::compare_short(a.high, b.high),
-        }),
-        b'C' => coded(Coded {
-            word: 0,
-            code: hexfloat::compare_long(a, b),
-        }),
-        b'x' => fixed(hexfloat::to_fixed(a.high)),
+        b'd' => result(hexfloat::divide(Width::Short, c.mask, c.a, c.b)),
+        b'D' => result(hexfloat::divide(Width::Long, c.mask, c.a, c.b)),
+        b'c' => compared(hexfloat::compare(Width::Short, c.a, c.b)),
+        b'C' => compared(hexfloat::compare(Width::Long, c.a, c.b)),
+        b'x' => fixed(hexfloat::to_fixed(c.a.high)),
         // `f`, the last of the ops that a case has
-        _ => coded(hexfloat::to_float(a.high)),
+        _ => coded(hexfloat::to_float(c.a.high)),
     }
 }
 
-fn short_quotient(q: ShortQuotient) -> Answer {
-    match q {
-        ShortQuotient::Word(w) => words(Long { high: w, low: 0 }),
-        ShortQuotient::ZeroDivisor => stopped(8),
-        ShortQuotient::Overflow => stopped(9),
-        ShortQuotient::Underflow => stopped(10),
+fn result(r: Result) -> Answer {
+    match r {
+        Result::Number(w) => words(w),
+        Result::ZeroDivisor => stopped(8),
+        Result::Overflow => stopped(9),
+        Result::Underflow => stopped(10),
     }
 }
 
-fn long_quotient(q: LongQuotient) -> Answer {
-    match q {
-        LongQuotient::Pair(w) => words(w),
-        LongQuotient::ZeroDivisor => stopped(8),
-        LongQuotient::Overflow => stopped(9),
-        LongQuotient::Underflow => stopped(10),
-    }
+fn compared(condition: u8) -> Answer {
+    coded(Coded { word: 0, condition })
 }
 
 fn fixed(f: Fixed) -> Answer {
@@ -61,29 +48,29 @@ fn fixed(f: Fixed) -> Answer {
     }
 }
 
-fn words(w: Long) -> Answer {
+fn words(w: Words) -> Answer {
     Answer {
         words: w,
         stop: 0,
-        code: NO_CODE,
+        condition: NO_CONDITION,
     }
 }
 
 fn coded(c: Coded) -> Answer {
     Answer {
-        words: Long {
+        words: Words {
             high: c.word,
             low: 0,
         },
         stop: 0,
-        code: c.code,
+        condition: c.condition,
     }
 }
 
 fn stopped(number: u8) -> Answer {
     Answer {
-        words: Long { high: 0, low: 0 },
+        words: Words { high: 0, low: 0 },
         stop: number,
-        code: NO_CODE,
+        condition: NO_CONDITION,
     }
 }

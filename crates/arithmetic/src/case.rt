@@ -1,12 +1,12 @@
 // A case: `op mask a b` in 38 bytes, with a and b of 16 digits 0-9 A-F and a line feed at the end.
-use hexfloat::Long;
+use hexfloat::Words;
 ghost use Prim.Native.Nat.{_+_, _≤_, _<_};
 
 pub struct Case {
     pub op: u8,
     pub mask: bool,
-    pub a: Long,
-    pub b: Long,
+    pub a: Words,
+    pub b: Words,
 }
 
 pub enum Read {
@@ -42,11 +42,11 @@ pub fn parse(line: &[u8; 38], n: usize) -> Read {
     Read::Case(Case {
         op: line[0],
         mask: line[2] == b'1',
-        a: Long {
+        a: Words {
             high: a,
             low: a_low,
         },
-        b: Long {
+        b: Words {
             high: b,
             low: b_low,
         },

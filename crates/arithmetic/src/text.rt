@@ -9,8 +9,8 @@ pub fn line(a: Answer) -> [u8; 22] {
     put_word(&mut out, 8, words.low);
     out[17] = digit((a.stop / 10 % 10) as u32);
     out[18] = digit((a.stop % 10) as u32);
-    out[20] = if a.code < 4 {
-        digit(a.code as u32)
+    out[20] = if a.condition < 4 {
+        digit(a.condition as u32)
     } else {
         b'-'
     };

@@ -9,15 +9,15 @@ use Rattle.hexfloat.specs.declared.word.Parts.{Parts}
 use Rattle.hexfloat.specs.Answer.{gives, stops}
 use Rattle.hexfloat.specs.Word.{shortParts, magnitude}
 use Rattle.hexfloat.specs.Normal.{digits, characteristicOf, fractionOf, IsCharacteristic}
-use Rattle.hexfloat.specs.Code.{signedCode}
+use Rattle.hexfloat.specs.Condition.{conditionBy, signedCondition}
 use Rattle.hexfloat.specs.Convert.{fixedMagnitude, signedWord, toFixed}
 use Rattle.hexfloat.proofs.Digits.{pos, mono, digits-are}
 use Rattle.hexfloat.proofs.Ratio.{characteristic-unique}
 
 module _ (p : Parts) where
-  pub moved-left : 66 ≤ p .characteristic → fixedMagnitude p ≡ p .fraction * 16 ^ (p .characteristic - 66)
+  pub fixed-left : 66 ≤ p .characteristic → fixedMagnitude p ≡ p .fraction * 16 ^ (p .characteristic - 66)
   unfolding fixedMagnitude magnitude
-  moved-left h =
+  fixed-left h =
       ap (λ (z : ℕ). z / 16 ^ 74)
       (ap (λ (z : ℕ). p .fraction * 16 ^ z) (index h) ∙ ap (λ (z : ℕ). p .fraction * z) (pow-add 16 (p .characteristic - 66) 74) ∙ sym (mul-assoc (p .fraction) (16 ^ (p .characteristic - 66)) (16 ^ 74)))
       ∙ mul-div-cancel (p .fraction * 16 ^ (p .characteristic - 66)) (pos 74)
@@ -25,17 +25,17 @@ module _ (p : Parts) where
       index : 66 ≤ p .characteristic → p .characteristic + 8 ≡ p .characteristic - 66 + 74
       index l = omega arith
 
-  pub moved-right : p .characteristic ≤ 66 → fixedMagnitude p ≡ p .fraction / 16 ^ (66 - p .characteristic)
+  pub fixed-right : p .characteristic ≤ 66 → fixedMagnitude p ≡ p .fraction / 16 ^ (66 - p .characteristic)
   unfolding fixedMagnitude magnitude
-  moved-right h =
+  fixed-right h =
       ap (λ (z : ℕ). p .fraction * 16 ^ (p .characteristic + 8) / z) (ap (λ (z : ℕ). 16 ^ z) (index h) ∙ pow-add 16 (66 - p .characteristic) (p .characteristic + 8))
       ∙ mul-div-mul-right (p .fraction) (16 ^ (66 - p .characteristic)) (pos (p .characteristic + 8))
     where
       index : p .characteristic ≤ 66 → 74 ≡ 66 - p .characteristic + (p .characteristic + 8)
       index l = omega arith
 
-  pub moved-out : p .characteristic ≤ 60 → p .fraction < 16 ^ 6 → fixedMagnitude p ≡ 0
-  moved-out h l = moved-right (omega arith) ∙ div-eq-of-lt (lt-of-lt-of-le l (mono {i = 6} {j = 66 - p .characteristic} (omega arith)))
+  pub fixed-out : p .characteristic ≤ 60 → p .fraction < 16 ^ 6 → fixedMagnitude p ≡ 0
+  fixed-out h l = fixed-right (omega arith) ∙ div-eq-of-lt (lt-of-lt-of-le l (mono {i = 6} {j = 66 - p .characteristic} (omega arith)))
 
   pub fixed-zero : p .fraction ≡ 0 → fixedMagnitude p ≡ 0
   unfolding fixedMagnitude magnitude
@@ -43,7 +43,7 @@ module _ (p : Parts) where
 
   pub fixed-large : 73 < p .characteristic → 0 < p .fraction → 2 ^ 32 ≤ fixedMagnitude p
   fixed-large h l =
-      rw (moved-left (omega arith))
+      rw (fixed-left (omega arith))
       (le-trans (mono {i = 8} {j = p .characteristic - 66} (omega arith)) (le-trans (le-of-eq (sym (one-mul (16 ^ (p .characteristic - 66))))) (mul-le-mul-right (16 ^ (p .characteristic - 66)) l)))
 
 pub overflows : (w : ℕ) → 2 ^ 31 + shortParts w .sign ≤ fixedMagnitude (shortParts w) → toFixed w ≡ stops 11
@@ -51,7 +51,7 @@ unfolding toFixed
 overflows w h = rw (le-ltb (fixedMagnitude (shortParts w)) (2 ^ 31 + shortParts w .sign) h)
 
 pub fixed : (w : ℕ) → fixedMagnitude (shortParts w) < 2 ^ 31 + shortParts w .sign
-    → toFixed w ≡ gives (record { word = signedWord (shortParts w .sign) (fixedMagnitude (shortParts w)); code = signedCode (2 ^ 15) (signedWord (shortParts w .sign) (fixedMagnitude (shortParts w)) / 2 ^ 16) })
+    → toFixed w ≡ gives (record { word = signedWord (shortParts w .sign) (fixedMagnitude (shortParts w)); condition = signedCondition (2 ^ 15) (signedWord (shortParts w .sign) (fixedMagnitude (shortParts w)) / 2 ^ 16) })
 unfolding toFixed
 fixed w h = rw (lt-ltb (fixedMagnitude (shortParts w)) (2 ^ 31 + shortParts w .sign) h)
 
@@ -59,13 +59,13 @@ word-zero : (s : ℕ) → signedWord s 0 ≡ 0
 word-zero zero = refl
 word-zero (suc s) = rw (ne-eqb (suc s) 0 (λ e. omega arith))
 
-pub fixed-of-zero : (w : ℕ) → shortParts w .fraction ≡ 0 → toFixed w ≡ gives (record { word = 0; code = 0 })
-unfolding signedCode
+pub fixed-of-zero : (w : ℕ) → shortParts w .fraction ≡ 0 → toFixed w ≡ gives (record { word = 0; condition = 0 })
+unfolding conditionBy
 fixed-of-zero w e =
     let z : fixedMagnitude (shortParts w) ≡ 0 = fixed-zero (shortParts w) e in
     fixed w (lt-of-le-of-lt (le-of-eq z) (omega arith))
-    ∙ ap (λ (m : ℕ). gives (record { word = signedWord (shortParts w .sign) m; code = signedCode (2 ^ 15) (signedWord (shortParts w .sign) m / 2 ^ 16) })) z
-    ∙ ap (λ (m : ℕ). gives (record { word = m; code = signedCode (2 ^ 15) (m / 2 ^ 16) })) (word-zero (shortParts w .sign))
+    ∙ ap (λ (m : ℕ). gives (record { word = signedWord (shortParts w .sign) m; condition = signedCondition (2 ^ 15) (signedWord (shortParts w .sign) m / 2 ^ 16) })) z
+    ∙ ap (λ (m : ℕ). gives (record { word = m; condition = signedCondition (2 ^ 15) (m / 2 ^ 16) })) (word-zero (shortParts w .sign))
 
 module _ (m : ℕ) (h : 0 < m) where
   power : 16 ^ (60 + digits m) * 65536 ≡ 16 ^ digits m * 16 ^ 64

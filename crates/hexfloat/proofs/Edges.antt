@@ -1,15 +1,16 @@
 -- The starred edges of document 01 hold: each is computed from the definitions.
 use mathlib.Core.Path.{refl}
 use Rattle.hexfloat.specs.Normal.{digits, digitsIn, characteristicOf, fractionOf}
-use Rattle.hexfloat.specs.Code.{codeOf, signedCode}
-use Rattle.hexfloat.specs.Compare.{comparedLong, compared, orderCode, positive, negative}
+use Rattle.hexfloat.specs.Condition.{conditionBy}
+use Rattle.hexfloat.specs.Compare.{comparedWords, compared, positive, negative}
 use Rattle.hexfloat.specs.Convert.{toFixed, toFloat, floatParts, fixedMagnitude}
-use Rattle.hexfloat.specs.Divide.{shortQuotient, quotient}
+use Rattle.hexfloat.specs.Divide.{quotientWords, quotient}
+use Rattle.hexfloat.specs.Result.{resultOf}
 use Rattle.hexfloat.specs.Word.{magnitude}
 use Rattle.hexfloat.specs.Edges.{StarredEdges}
 
 pub starred-edges : StarredEdges
-unfolding toFloat floatParts codeOf toFixed fixedMagnitude signedCode shortQuotient quotient comparedLong compared orderCode positive negative magnitude characteristicOf fractionOf digits digitsIn
+unfolding toFloat floatParts conditionBy toFixed fixedMagnitude quotientWords quotient resultOf comparedWords compared positive negative magnitude characteristicOf fractionOf digits digitsIn
 starred-edges = record {
   cvfl-one = refl;
   cvfl-least = refl;

@@ -1,4 +1,4 @@
--- The key of an operand orders as its exact magnitude does.
+-- The key of an operand ranks as its exact magnitude does.
 use mathlib.Core.Path.{_≡_, sym, ap, ap₂, _∙_}
 use mathlib.Core.Logic.{_⊎_, inl, inr, ⊎-elim}
 use Prim.Native.Nat.{ℕ, _+_, _-_, _*_, _^_, _<_}
@@ -7,55 +7,65 @@ use native.Mathlib.Omega.{arith}
 use borrow.Author.Tests.{lt-ltb, le-ltb, eq-eqb, ne-eqb}
 use Rattle.hexfloat.specs.declared.word.Parts.{Parts}
 use Rattle.hexfloat.specs.Word.{magnitude}
-use Rattle.hexfloat.specs.Compare.{orderCode}
-use Rattle.hexfloat.specs.Operand.{Operand, normalised, keyOf}
+use Rattle.hexfloat.specs.Condition.{conditionBy}
+use Rattle.hexfloat.specs.Compare.{rankCondition}
+use Rattle.hexfloat.specs.Operand.{Operand, normalised, magnitudeKey}
 use Rattle.hexfloat.proofs.Digits.{pos, mono}
 use Rattle.hexfloat.proofs.Normalised.{most, least, exact, positive}
 
-pub data Order (a b : ℕ) : Type 0 where
-  less : a < b → Order a b
-  same : a ≡ b → Order a b
-  more : b < a → Order a b
+pub data Trichotomy (a b : ℕ) : Type 0 where
+  less : a < b → Trichotomy a b
+  same : a ≡ b → Trichotomy a b
+  more : b < a → Trichotomy a b
 
-pub order : (a b : ℕ) → Order a b
-order a b = ⊎-elim (λ e. ⊎-elim (λ f. same (omega arith)) (λ p. more (omega arith)) (eq-zero-or-pos (a - b))) (λ p. less (omega arith)) (eq-zero-or-pos (b - a))
+pub trichotomy : (a b : ℕ) → Trichotomy a b
+trichotomy a b = ⊎-elim (λ e. ⊎-elim (λ f. same (omega arith)) (λ p. more (omega arith)) (eq-zero-or-pos (a - b))) (λ p. less (omega arith)) (eq-zero-or-pos (b - a))
 
--- numbers that stand in one order have one code
-pub same-order : (x y x′ y′ : ℕ) → (x < y → x′ < y′) → (x ≡ y → x′ ≡ y′) → (y < x → y′ < x′) → orderCode x y ≡ orderCode x′ y′
-unfolding orderCode
-same-order x y x′ y′ l e m = go (order x y)
+-- how two numbers stand gives their condition
+module _ (x y : ℕ) where
+  pub ranks-below : x < y → rankCondition x y ≡ 3
+  unfolding conditionBy
+  ranks-below h = rw (ne-eqb x y (λ e. omega arith), le-ltb y x (omega arith))
+
+  pub ranks-level : x ≡ y → rankCondition x y ≡ 0
+  unfolding conditionBy
+  ranks-level h = rw (eq-eqb x y h)
+
+  pub ranks-above : y < x → rankCondition x y ≡ 1
+  unfolding conditionBy
+  ranks-above h = rw (ne-eqb x y (λ e. omega arith), lt-ltb y x h)
+
+-- so numbers that rank alike have one
+pub same-rank : (x y x′ y′ : ℕ) → (x < y → x′ < y′) → (x ≡ y → x′ ≡ y′) → (y < x → y′ < x′) → rankCondition x y ≡ rankCondition x′ y′
+same-rank x y x′ y′ l e m = go (trichotomy x y)
   where
-    go : Order x y → orderCode x y ≡ orderCode x′ y′
-    go (less h) = rw (lt-ltb x y h, lt-ltb x′ y′ (l h))
-    go (same h) =
-        let h′ : x′ ≡ y′ = e h in
-        rw (le-ltb x y (omega arith), le-ltb y x (omega arith), le-ltb x′ y′ (omega arith), le-ltb y′ x′ (omega arith))
-    go (more h) =
-        let h′ : y′ < x′ = m h in
-        rw (le-ltb x y (omega arith), lt-ltb y x h, le-ltb x′ y′ (omega arith), lt-ltb y′ x′ h′)
+    go : Trichotomy x y → rankCondition x y ≡ rankCondition x′ y′
+    go (less h) = rw (ranks-below x y h, ranks-below x′ y′ (l h))
+    go (same h) = rw (ranks-level x y h, ranks-level x′ y′ (e h))
+    go (more h) = rw (ranks-above x y h, ranks-above x′ y′ (m h))
 
 -- the first place decides, then the rest
 lexical : (m p f p′ f′ : ℕ) → f < m → f′ < m → p * m + f < p′ * m + f′ → (p < p′) ⊎ ((p ≡ p′) × (f < f′))
-lexical m p f p′ f′ h h′ l = go (order p p′)
+lexical m p f p′ f′ h h′ l = go (trichotomy p p′)
   where
     lt-of-add : p′ * m + f < p′ * m + f′ → f < f′
     lt-of-add q = omega arith
 
-    go : Order p p′ → (p < p′) ⊎ ((p ≡ p′) × (f < f′))
+    go : Trichotomy p p′ → (p < p′) ⊎ ((p ≡ p′) × (f < f′))
     go (less a) = inl a
     go (same e) = inr (e, lt-of-add (rw e at l))
     go (more a) = absurd (not-le-of-lt l (le-trans (le-of-lt (add-lt-add-of-le-of-lt (le-refl (p′ * m)) h′)) (le-trans (le-of-eq (sym (suc-mul p′ m))) (le-trans (mul-le-mul-right m a) (le-add-right (p * m) f)))))
 
 module _ {d : ℕ} {p : Parts} (o : Operand d p) where
-  key-zero : p .fraction ≡ 0 → keyOf d p ≡ 0
-  unfolding keyOf
+  key-zero : p .fraction ≡ 0 → magnitudeKey d p ≡ 0
+  unfolding magnitudeKey
   key-zero e = rw (eq-eqb (p .fraction) 0 e)
 
-  key-some : 0 < p .fraction → keyOf d p ≡ normalised d p .place * 2 ^ 56 + normalised d p .fraction
-  unfolding keyOf
+  key-some : 0 < p .fraction → magnitudeKey d p ≡ normalised d p .place * 2 ^ 56 + normalised d p .fraction
+  unfolding magnitudeKey
   key-some h = rw (ne-eqb (p .fraction) 0 (λ e. omega arith))
 
-  key-positive : 0 < p .fraction → 0 < keyOf d p
+  key-positive : 0 < p .fraction → 0 < magnitudeKey d p
   key-positive h = rw (key-some h) (omega (arith, least o h, pos d))
 
   pub zero-is-zero : p .fraction ≡ 0 → magnitude d p ≡ 0
@@ -67,14 +77,14 @@ module _ {d : ℕ} {p : Parts} (o : Operand d p) where
   small = lt-of-lt-of-le (most o) (mono {j = 14} (o .most))
 
   -- a key is zero where the magnitude is
-  pub zero-key : keyOf d p ≡ 0 → magnitude d p ≡ 0
+  pub zero-key : magnitudeKey d p ≡ 0 → magnitude d p ≡ 0
   zero-key e = ⊎-elim zero-is-zero (λ h. let no : ⊥ = omega (arith, key-positive h) in absurd no) (eq-zero-or-pos (p .fraction))
 
-  pub some-key : (keyOf d p ≡ 0 → ⊥) → 0 < magnitude d p
+  pub some-key : (magnitudeKey d p ≡ 0 → ⊥) → 0 < magnitude d p
   some-key ne = ⊎-elim (λ e. absurd (ne (key-zero e))) (positive o) (eq-zero-or-pos (p .fraction))
 
 module _ {d : ℕ} {x y : Parts} (ox : Operand d x) (oy : Operand d y) where
-  pub key-less : keyOf d x < keyOf d y → magnitude d x < magnitude d y
+  pub key-less : magnitudeKey d x < magnitudeKey d y → magnitude d x < magnitude d y
   key-less l = ⊎-elim none some (eq-zero-or-pos (y .fraction))
     where
       scaled : normalised d x .fraction * 16 ^ normalised d x .place < normalised d y .fraction * 16 ^ normalised d y .place → magnitude d x < magnitude d y
@@ -102,7 +112,7 @@ module _ {d : ℕ} {x y : Parts} (ox : Operand d x) (oy : Operand d y) where
       some : 0 < y .fraction → magnitude d x < magnitude d y
       some hy = ⊎-elim (λ e. lt-of-le-of-lt (le-of-eq (zero-is-zero ox e)) (positive oy hy)) (both hy) (eq-zero-or-pos (x .fraction))
 
-  pub key-same : keyOf d x ≡ keyOf d y → magnitude d x ≡ magnitude d y
+  pub key-same : magnitudeKey d x ≡ magnitudeKey d y → magnitude d x ≡ magnitude d y
   key-same e = ⊎-elim none some (eq-zero-or-pos (x .fraction))
     where
       none : x .fraction ≡ 0 → magnitude d x ≡ magnitude d y

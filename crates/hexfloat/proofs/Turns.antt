@@ -1,51 +1,48 @@
--- A turn of the division, where the dividend is wider than a word: an estimate from below by the divisor's leading digits, and what it leaves.
+-- Turns of a long division: an estimate from below by the divisor's leading digits where the dividend is wider than a word, what it leaves, its one
+-- correction, and two turns in a row.
 use mathlib.Core.Path.{_≡_, sym, ap, _∙_}
 use Prim.Native.Nat.{ℕ, suc, _+_, _-_, _*_, _/_, _%_, _^_, _≤_, _<_}
-use native.Mathlib.Nat.{sub-add-cancel, add-comm, le-trans, le-of-eq, le-of-lt, lt-of-lt-of-le, lt-of-le-of-lt, le-refl, suc-mul, mul-assoc, mul-comm, mul-add, add-mul, mul-le-mul-right, mul-le-mul-left, mul-lt-mul-of-pos-right, lt-of-mul-lt-mul-right, le-of-mul-le-mul-right, div-mul-le-self, lt-div-mul-add, zero-mul, zero-add, le-add-right, add-le-add, mul-le-mul}
+use native.Mathlib.Nat.{sub-add-cancel, add-comm, le-trans, le-of-eq, le-of-lt, lt-of-lt-of-le, lt-of-le-of-lt, le-refl, suc-mul, mul-assoc, mul-comm, mul-right-comm, mul-add, add-mul, mul-le-mul-right, mul-le-mul-left, mul-lt-mul-of-pos-right, lt-of-mul-lt-mul-right, le-of-mul-le-mul-right, div-mul-le-self, div-lt-iff-lt-mul, lt-div-mul-add, div-add-mod', mul-add-div-right, add-le-add, mul-le-mul}
 use native.Mathlib.Omega.{arith}
 use lib.Arith.{digits-div, digits-mod}
 use lib.Pow.{pow-add}
-use Rattle.hexfloat.specs.Operand.{Turning, Settling, settled}
+use Rattle.hexfloat.specs.declared.division.Turn.{Turn}
+use Rattle.hexfloat.specs.Operand.{Turning, turnOf}
 use Rattle.hexfloat.proofs.Digits.{pos, mono}
-
--- the same whole is settled in the same way
-pub same-whole : (q r q′ r′ b : ℕ) → q * b + r ≡ q′ * b + r′ → settled q r b ≡ settled q′ r′ b
-same-whole q r q′ r′ b e = ap (λ (x : ℕ). record { digits = x / b; rest = x % b }) e
-
--- with nothing taken before, it is the quotient and the remainder
-pub plain : (x b : ℕ) → settled 0 x b ≡ record { digits = x / b; rest = x % b }
-plain x b = ap (λ (y : ℕ). record { digits = y / b; rest = y % b }) (ap (λ (y : ℕ). y + x) (zero-mul b) ∙ zero-add x)
 
 -- a number of i digits can be moved left by k in a u64
 pub shift-fits : (i k rest : ℕ) → rest < 16 ^ i → i + k ≤ 16 → rest * 16 ^ k < 2 ^ 64
 shift-fits i k rest h w = lt-of-lt-of-le (mul-lt-mul-of-pos-right h (pos k)) (le-trans (le-of-eq (sym (pow-add 16 i k))) (mono {j = 16} w))
 
--- the digits of a turn fit a u64
-pub turn-fits : (k rest b : ℕ) → Turning k rest b → rest * 16 ^ k < 2 ^ 64 * b
-turn-fits k rest b t =
-    lt-of-lt-of-le (mul-lt-mul-of-pos-right (t .near) (pos k))
-    (le-trans (le-of-eq (mul-assoc b 16 (16 ^ k) ∙ mul-comm b (16 * 16 ^ k))) (mul-le-mul-right b (le-trans (le-of-eq (sym (pow-add 16 1 k))) (mono {j = 16} (omega (arith, t .few))))))
+-- what a turn takes and leaves of q * b + r, with r below b
+pub taken : {x : ℕ} (q r b : ℕ) → q * b + r ≡ x → r < b → record { taken = q; rest = r } ≡ turnOf x b
+taken q r b e h = λ i. record { taken = (sym (digits-div q h) ∙ ap (λ (y : ℕ). y / b) e) i; rest = (sym (digits-mod q h) ∙ ap (λ (y : ℕ). y % b) e) i }
 
--- a remainder below the divisor is settled
-pub done : (q r b : ℕ) → r < b → record { digits = q; rest = r } ≡ settled q r b
-done q r b h = λ i. record { digits = sym (digits-div q h) i; rest = sym (digits-mod q h) i }
-
--- one more digit taken out of the remainder
+-- one more taken out of the remainder
 pub one-more : (q r b : ℕ) → b ≤ r → (q + 1) * b + (r - b) ≡ q * b + r
-one-more q r b h = ap (λ (x : ℕ). x + (r - b)) (add-mul q 1 b ∙ ap (λ (x : ℕ). q * b + x) (one b)) ∙ move (q * b)
+one-more q r b h = ap (λ (x : ℕ). x + (r - b)) (add-mul q 1 b) ∙ move (q * b)
   where
-    one : (b : ℕ) → 1 * b ≡ b
-    one b = omega arith
-
-    move : (x : ℕ) → x + b + (r - b) ≡ x + r
+    move : (x : ℕ) → x + 1 * b + (r - b) ≡ x + r
     move x = omega arith
 
-pub one-more-fits : (q r b : ℕ) → Settling q r b → b ≤ r → q + 1 < 2 ^ 64
-one-more-fits q r b s h =
-    lt-of-mul-lt-mul-right b (lt-of-le-of-lt (le-trans (le-add-right ((q + 1) * b) (r - b)) (le-of-eq (one-more q r b h))) (s .fits))
+-- two turns in a row, the second of k digits
+pub two-turns : (x k b : ℕ) → 0 < b → x / b * 16 ^ k + x % b * 16 ^ k / b ≡ x * 16 ^ k / b
+two-turns x k b some =
+    sym (mul-add-div-right some (x / b * 16 ^ k) (x % b * 16 ^ k))
+    ∙ ap (λ (y : ℕ). y / b) (ap (λ (y : ℕ). y + x % b * 16 ^ k) (mul-right-comm (x / b) (16 ^ k) b) ∙ sym (add-mul (x / b * b) (x % b) (16 ^ k)) ∙ ap (λ (y : ℕ). y * 16 ^ k) (div-add-mod' x b))
 
-pub falls : (r b : ℕ) → 0 < b → b ≤ r → r - b < r
-falls r b p h = omega arith
+pub seven-last : (n a b : ℕ) (t u : Turn) → 7 ≤ n → 0 < b → t ≡ turnOf (a * 16 ^ (n - 7)) b → u ≡ turnOf (t .rest * 16 ^ 7) b
+    → t .taken * 16 ^ 7 + u .taken ≡ a * 16 ^ n / b
+seven-last n a b t u h some et eu =
+    rw (eu, et)
+    (two-turns (a * 16 ^ (n - 7)) 7 b some
+    ∙ ap (λ (y : ℕ). y / b) (mul-assoc a (16 ^ (n - 7)) (16 ^ 7) ∙ ap (λ (y : ℕ). a * y) (sym (pow-add 16 (n - 7) 7) ∙ ap (λ (y : ℕ). 16 ^ y) (omega arith))))
+
+-- a quotient of n digits of two normalised fractions has at most one digit more
+pub quotient-most : (n a b : ℕ) → 0 < b → a < b * 16 → a * 16 ^ n / b < 16 ^ (1 + n)
+quotient-most n a b some near =
+    div-lt-iff-lt-mul some .1
+    (lt-of-lt-of-le (mul-lt-mul-of-pos-right near (pos n)) (le-of-eq (mul-assoc b 16 (16 ^ n) ∙ ap (λ (x : ℕ). b * x) (sym (pow-add 16 1 n)) ∙ mul-comm b (16 ^ (1 + n)))))
 
 -- rest * 16^k against b, with the estimate e by m, which is more than b's leading digits
 module _ (k rest b e : ℕ) where
@@ -55,9 +52,9 @@ module _ (k rest b e : ℕ) where
   abbrev pub high : ℕ
   high = b / 16 ^ k
 
-  module _ (t : Turning k rest b) (wide : 2 < k) (is : e ≡ rest * 256 / leading) where
+  module _ (t : Turning k rest b) (is : e ≡ rest * 256 / leading) where
     split : 256 * 16 ^ (k - 2) ≡ 16 ^ k
-    split = sym (pow-add 16 2 (k - 2)) ∙ ap (λ (x : ℕ). 16 ^ x) (omega arith)
+    split = sym (pow-add 16 2 (k - 2)) ∙ ap (λ (x : ℕ). 16 ^ x) (omega (arith, t .some))
 
     leading-pos : 0 < leading
     leading-pos = omega arith
@@ -114,9 +111,12 @@ module _ (k rest b e : ℕ) where
         regroup : (x y z : ℕ) → x ≤ z → x + y + (z - x) ≡ z + y
         regroup x y z h = omega arith
 
+    near : rest < b * 16
+    near = omega (arith, t .dividend, t .normal)
+
     pub few : e < 16 ^ 8
     few =
-        lt-of-lt-of-le (lt-of-mul-lt-mul-right b (lt-of-le-of-lt below (lt-of-lt-of-le (mul-lt-mul-of-pos-right (t .near) (pos k)) (le-of-eq (turn-round b (16 ^ k))))))
+        lt-of-lt-of-le (lt-of-mul-lt-mul-right b (lt-of-le-of-lt below (lt-of-lt-of-le (mul-lt-mul-of-pos-right near (pos k)) (le-of-eq (turn-round b (16 ^ k))))))
         (le-trans (le-of-eq (sym (pow-add 16 1 k))) (mono {j = 8} (omega (arith, t .few))))
       where
         turn-round : (b x : ℕ) → b * 16 * x ≡ 16 * x * b
@@ -128,7 +128,7 @@ module _ (k rest b e : ℕ) where
         cancel : (x y z : ℕ) → x + z < y + z → x < y
         cancel x y z h = omega arith
 
-    -- what is left is little more than the divisor
+    -- what is left is little more than the divisor ..
     left-most : left < b + suc e * 16 ^ (k - 2)
     left-most = cancel left (b + suc e * 16 ^ (k - 2)) (e * b) (lt-of-le-of-lt (le-of-eq kept) (lt-of-lt-of-le reach (le-of-eq spread)))
       where
@@ -155,12 +155,22 @@ module _ (k rest b e : ℕ) where
             swap : (x y z : ℕ) → x + y + z ≡ y + z + x
             swap x y z = omega arith
 
-    -- so it fits a u64 with what is taken from it
-    pub fits : up * 16 ^ k < 2 ^ 64
-    fits =
-        let small : suc e * 16 ^ (k - 2) ≤ 16 ^ 13 = le-trans (mul-le-mul few (mono {j = 5} (omega (arith, t .few)))) (le-refl (16 ^ 13)) in
-        let taken : e * low ≤ 16 ^ 15 = le-trans (mul-le-mul (le-of-lt few) (le-trans (le-of-lt low-most) (mono {j = 7} (t .few)))) (le-refl (16 ^ 15)) in
-        total (up * 16 ^ k) (e * low) (suc e * 16 ^ (k - 2)) enough left-most small taken (t .divisor)
+    -- so one correction is enough ..
+    pub left-near : left < 2 * b
+    left-near = total left (suc e * 16 ^ (k - 2)) left-most small (t .normal)
       where
-        total : (x y z : ℕ) → y ≤ x → x - y < b + z → z ≤ 16 ^ 13 → y ≤ 16 ^ 15 → b < 16 ^ 14 → x < 2 ^ 64
-        total x y z h l s u d = omega arith
+        small : suc e * 16 ^ (k - 2) ≤ 16 ^ 13
+        small = le-trans (mul-le-mul few (mono {j = 5} (omega (arith, t .few)))) (le-refl (16 ^ 13))
+
+        total : (x z : ℕ) → x < b + z → z ≤ 16 ^ 13 → 16 ^ 13 ≤ b → x < 2 * b
+        total x z l s n = omega arith
+
+    -- .. and it fits a u64 with what is taken from it
+    pub fits : up * 16 ^ k < 2 ^ 64
+    fits = total (up * 16 ^ k) (e * low) enough left-near product-most (t .divisor)
+      where
+        product-most : e * low ≤ 16 ^ 15
+        product-most = le-trans (mul-le-mul (le-of-lt few) (le-trans (le-of-lt low-most) (mono {j = 7} (t .few)))) (le-refl (16 ^ 15))
+
+        total : (x y : ℕ) → y ≤ x → x - y < 2 * b → y ≤ 16 ^ 15 → b < 16 ^ 14 → x < 2 ^ 64
+        total x y h l u d = omega arith

@@ -9,7 +9,7 @@ use Rattle.hexfloat.specs.declared.convert.Fixed.the-variants.{Word, Ove
 use Rattle.hexfloat.specs.Answer.{Answer, gives, stops}
 use Rattle.hexfloat.specs.Word.{shortParts, shortWord, trueZero, magnitude}
 use Rattle.hexfloat.specs.Normal.{characteristicOf, fractionOf}
-use Rattle.hexfloat.specs.Code.{codeOf, signedCode}
+use Rattle.hexfloat.specs.Condition.{conditionOf, signedCondition}
 
 -- what the code's answer says: convert overflow is 11
 abbrev pub saysFixed : Fixed → Answer Coded
@@ -30,7 +30,7 @@ toFixed w =
     let p = shortParts w in
     let m = fixedMagnitude p in
     let word = signedWord (p .sign) m in
-    cond (ltb m (2 ^ 31 + p .sign)) (gives (record { word = word; code = signedCode (2 ^ 15) (word / 2 ^ 16) })) (stops 11)
+    cond (ltb m (2 ^ 31 + p .sign)) (gives (record { word = word; condition = signedCondition (2 ^ 15) (word / 2 ^ 16) })) (stops 11)
 
 -- the magnitude of a signed word
 abbrev pub wordMagnitude : ℕ → ℕ
@@ -43,4 +43,4 @@ floatParts w =
     cond (eqb m 0) trueZero (record { sign = w / 2 ^ 31; characteristic = characteristicOf m 65536; fraction = fractionOf 6 m 65536 })
 
 unfoldable pub toFloat : ℕ → Coded
-toFloat w = record { word = shortWord (floatParts w); code = codeOf (floatParts w) }
+toFloat w = record { word = shortWord (floatParts w); condition = conditionOf (floatParts w) }

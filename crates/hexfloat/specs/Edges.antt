@@ -1,21 +1,23 @@
 -- The starred edges of document 01, 'Edges', as statements about the definitions that the contracts cite.
 use mathlib.Core.Path.{_≡_}
 use mathlib.Core.Bool.{true, false}
+use Rattle.hexfloat.specs.declared.word.Width.the-variants.{Short, Long}
 use Rattle.hexfloat.specs.Answer.{gives, stops}
-use Rattle.hexfloat.specs.Compare.{comparedLong}
+use Rattle.hexfloat.specs.Word.{shortWords}
+use Rattle.hexfloat.specs.Compare.{comparedWords}
 use Rattle.hexfloat.specs.Convert.{toFixed, toFloat}
-use Rattle.hexfloat.specs.Divide.{shortQuotient}
+use Rattle.hexfloat.specs.Divide.{quotientWords}
 
 pub record StarredEdges : Type 0 where
-  pub cvfl-one : toFloat 0x00010000 ≡ record { word = 0x41100000; code = 1 }
-  pub cvfl-least : toFloat 0x80000000 ≡ record { word = 0xC4800000; code = 3 }
-  pub cvfl-minus : toFloat 0xFFFFFFFF ≡ record { word = 0xBD100000; code = 3 }
-  pub cvfx-most : toFixed 0x447FFFFF ≡ gives (record { word = 0x7FFFFF00; code = 1 })
+  pub cvfl-one : toFloat 0x00010000 ≡ record { word = 0x41100000; condition = 1 }
+  pub cvfl-least : toFloat 0x80000000 ≡ record { word = 0xC4800000; condition = 3 }
+  pub cvfl-minus : toFloat 0xFFFFFFFF ≡ record { word = 0xBD100000; condition = 3 }
+  pub cvfx-most : toFixed 0x447FFFFF ≡ gives (record { word = 0x7FFFFF00; condition = 1 })
   pub cvfx-overflow : toFixed 0x44800000 ≡ stops 11
-  pub cvfx-least : toFixed 0xC4800000 ≡ gives (record { word = 0x80000000; code = 3 })
-  pub third : shortQuotient true 0x41100000 0x41300000 ≡ gives 0x40555555
-  pub by-one : shortQuotient true 0x00100000 0x41100000 ≡ gives 0x00100000
-  pub underflow : shortQuotient true 0x00100000 0x41200000 ≡ stops 10
-  pub underflow-masked : shortQuotient false 0x00100000 0x41200000 ≡ gives 0
-  pub overflow : shortQuotient true 0x7FFFFFFF 0x40800000 ≡ stops 9
-  pub compare-long : comparedLong (record { high = 0x423FFFFF; low = 0x00001234 }) (record { high = 0x423FFFFF; low = 0x00801234 }) ≡ 3
+  pub cvfx-least : toFixed 0xC4800000 ≡ gives (record { word = 0x80000000; condition = 3 })
+  pub third : quotientWords Short true (shortWords 0x41100000) (shortWords 0x41300000) ≡ gives (shortWords 0x40555555)
+  pub by-one : quotientWords Short true (shortWords 0x00100000) (shortWords 0x41100000) ≡ gives (shortWords 0x00100000)
+  pub underflow : quotientWords Short true (shortWords 0x00100000) (shortWords 0x41200000) ≡ stops 10
+  pub underflow-masked : quotientWords Short false (shortWords 0x00100000) (shortWords 0x41200000) ≡ gives (shortWords 0)
+  pub overflow : quotientWords Short true (shortWords 0x7FFFFFFF) (shortWords 0x40800000) ≡ stops 9
+  pub compare-long : comparedWords Long (record { high = 0x423FFFFF; low = 0x00001234 }) (record { high = 0x423FFFFF; low = 0x00801234 }) ≡ 3

@@ -1,9 +1,10 @@
 pub mod Answer
 pub mod Word
 pub mod Normal
-pub mod Code
+pub mod Condition
 pub mod Compare
 pub mod Convert
+pub mod Result
 pub mod Divide
 pub mod Operand
 pub mod Edges

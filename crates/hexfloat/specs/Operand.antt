@@ -1,11 +1,13 @@
--- What the private functions of the crate hand each other: operands in range, and their normalised form (8.3).
+-- What the private functions of the crate hand each other: operands in range, their normalised form (8.3), and the places of a ratio.
 use Prim.Native.Nat.{ℕ, _+_, _-_, _*_, _/_, _%_, _^_, _≤_, _<_}
 use mathlib.Core.Bool.{cond}
 use lib.Dec.{ltb, eqb}
-use Rattle.hexfloat.specs.declared.divide.Turn.{Turn}
+use Rattle.hexfloat.specs.declared.division.Turn.{Turn}
 use Rattle.hexfloat.specs.declared.normal.Normal.{Normal}
 use Rattle.hexfloat.specs.declared.word.Parts.{Parts}
-use Rattle.hexfloat.specs.Normal.{digits}
+use Rattle.hexfloat.specs.declared.word.Width.{Width}
+use Rattle.hexfloat.specs.Normal.{digits, IsCharacteristic, IsFraction}
+use Rattle.hexfloat.specs.Word.{digitsOf}
 
 -- the parts of a word of d digits
 pub record Operand (d : ℕ) (p : Parts) : Type 0 where
@@ -20,40 +22,39 @@ pub record Operand (d : ℕ) (p : Parts) : Type 0 where
 unfoldable pub normalised : ℕ → Parts → Normal
 normalised d p = record { place = p .characteristic + 14 + digits (p .fraction) - d; fraction = p .fraction * 16 ^ (d - digits (p .fraction)) }
 
--- a number that orders magnitudes of d digits: the place of the first digit above the normalised fraction
-unfoldable pub keyOf : ℕ → Parts → ℕ
-keyOf d p = cond (eqb (p .fraction) 0) 0 (normalised d p .place * 2 ^ 56 + normalised d p .fraction)
+-- a number that ranks as the magnitude of d digits does: the place of the first digit above the normalised fraction
+unfoldable pub magnitudeKey : ℕ → Parts → ℕ
+magnitudeKey d p = cond (eqb (p .fraction) 0) 0 (normalised d p .place * 2 ^ 56 + normalised d p .fraction)
 
--- two normalised fractions of d digits, and how many digits of their quotient are wanted
-pub record Dividends (d n a b : ℕ) : Type 0 where
-  pub some : 0 < n
-  pub few : n ≤ 14
-  pub wide : 1 < d
-  pub most : d ≤ 14
-  pub dividend : a < 16 ^ d
-  pub divisor : b < 16 ^ d
-  pub positive : 0 < b
-  pub near : a < b * 16
+-- a / b has the characteristic up - down, also one below 0, and the fraction f of d digits: so a * 16^down over b has the characteristic up
+pub record IsPlaced (d a b up down f : ℕ) : Type 0 where
+  pub characteristic : IsCharacteristic (a * 16 ^ down) b up
+  pub fraction : IsFraction d (a * 16 ^ down) b up f
+
+-- two normalised fractions, and how many digits of their quotient are wanted: all that a number has, or one less
+pub record Dividends (w : Width) (n a b : ℕ) : Type 0 where
+  pub few : n ≤ digitsOf w
+  pub many : digitsOf w ≤ n + 1
+  pub dividend : a < 16 ^ digitsOf w
+  pub divisor : b < 16 ^ digitsOf w
+  pub normal : 16 ^ digitsOf w ≤ b * 16
 
 -- of two normalised fractions: 1 where their quotient has a digit before the point, else 0
 abbrev pub leadOf : ℕ → ℕ → ℕ
 leadOf a b = cond (ltb a b) 0 1
 
--- a turn of the division: q * b + rest over b
-abbrev pub settled : ℕ → ℕ → ℕ → Turn
-settled q rest b = record { digits = (q * b + rest) / b; rest = (q * b + rest) % b }
+-- x over b: what goes into the quotient, and what is left
+abbrev pub turnOf : ℕ → ℕ → Turn
+turnOf x b = record { taken = x / b; rest = x % b }
 
--- k digits more: rest * 16^k over b
-abbrev pub turned : ℕ → ℕ → ℕ → Turn
-turned k rest b = settled 0 (rest * 16 ^ k) b
-
-pub record Settling (q rest b : ℕ) : Type 0 where
-  pub positive : 0 < b
-  pub fits : q * b + rest < 2 ^ 64 * b
-
+-- k digits of a quotient by a normalised long fraction
 pub record Turning (k rest b : ℕ) : Type 0 where
+  pub some : 2 < k
   pub few : k ≤ 7
-  pub positive : 0 < b
   pub divisor : b < 16 ^ 14
-  pub remainder : rest < 16 ^ 14
-  pub near : rest < b * 16
+  pub normal : 16 ^ 13 ≤ b
+  pub dividend : rest < 16 ^ 14
+
+pub record Correcting (q rest b : ℕ) : Type 0 where
+  pub fits : q < 16 ^ 8
+  pub near : rest < 2 * b

@@ -1,22 +1,42 @@
 -- Short and long words, their parts and their exact values (8.1, 8.2; document 01, 'Words and their values').
 use Prim.Native.Nat.{ℕ, _+_, _-_, _*_, _/_, _%_, _^_}
 use Rattle.hexfloat.specs.declared.word.Parts.{Parts}
-use Rattle.hexfloat.specs.declared.word.Long.{Long}
+use Rattle.hexfloat.specs.declared.word.Width.{Width}
+use Rattle.hexfloat.specs.declared.word.Width.the-variants.{Short, Long}
+use Rattle.hexfloat.specs.declared.word.Words.{Words}
 
--- 8.1: the first bit is the sign, the next seven are the characteristic; a short fraction has 24 bits, six hexadecimal digits
+-- 8.1: a short fraction has six hexadecimal digits, a long one 14
+abbrev pub digitsOf : Width → ℕ
+digitsOf Short = 6
+digitsOf Long = 14
+
+-- 8.1: the first bit is the sign, the next seven are the characteristic; a short fraction has 24 bits
 abbrev pub shortParts : ℕ → Parts
 shortParts w = record { sign = w / 2 ^ 31; characteristic = w / 2 ^ 24 % 128; fraction = w % 2 ^ 24 }
 
--- 8.1: a long fraction has 56 bits, 14 digits, the last 32 of them in the second word
-abbrev pub longParts : Long → Parts
+-- 8.1: a long fraction has 56 bits, the last 32 of them in the second word
+abbrev pub longParts : Words → Parts
 longParts a = record { sign = a .high / 2 ^ 31; characteristic = a .high / 2 ^ 24 % 128; fraction = a .high % 2 ^ 24 * 2 ^ 32 + a .low }
+
+-- a short operand stands in the first word alone
+abbrev pub partsOf : Width → Words → Parts
+partsOf Short a = shortParts (a .high)
+partsOf Long a = longParts a
+
+-- a short word by itself
+abbrev pub shortWords : ℕ → Words
+shortWords w = record { high = w; low = 0 }
 
 -- the words of given parts
 abbrev pub shortWord : Parts → ℕ
 shortWord p = p .sign * 2 ^ 31 + p .characteristic * 2 ^ 24 + p .fraction
 
-abbrev pub longWord : Parts → Long
+abbrev pub longWord : Parts → Words
 longWord p = record { high = p .sign * 2 ^ 31 + p .characteristic * 2 ^ 24 + p .fraction / 2 ^ 32; low = p .fraction % 2 ^ 32 }
+
+abbrev pub wordsOf : Width → Parts → Words
+wordsOf Short p = shortWords (shortWord p)
+wordsOf Long p = longWord p
 
 -- 8.2: true zero has all bits 0
 abbrev pub trueZero : Parts

@@ -17,7 +17,10 @@ pub fn to_fixed(w: u32) -> Fixed
 {
     let p = crate::word::short_parts(w);
     if p.fraction == 0 {
-        return Fixed::Word(Coded { word: 0, code: 0 });
+        return Fixed::Word(Coded {
+            word: 0,
+            condition: 0,
+        });
     }
     if 73 < p.characteristic {
         return Fixed::Overflow;
@@ -29,7 +32,7 @@ pub fn to_fixed(w: u32) -> Fixed
     let word = signed_word(p.sign, m);
     Fixed::Word(Coded {
         word,
-        code: crate::code::signed_code(0x8000, word / 0x1_0000),
+        condition: crate::condition_code::signed_condition(0x8000, word / 0x1_0000),
     })
 }
 
@@ -66,7 +69,7 @@ pub fn to_float(w: u32) -> Coded
     let p = float_parts(w);
     Coded {
         word: crate::word::short_word(p),
-        code: crate::code::code(p),
+        condition: crate::condition_code::condition_of(p),
     }
 }
 

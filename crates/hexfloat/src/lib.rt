@@ -1,26 +1,25 @@
 // Hexadecimal floating point of the AP-101S, digit for digit (Principles of Operation, section 8).
 //
-// Every function takes plain words of any content and has no `requires`. The meaning of each is a
-// definition of specs/, which speaks of exact values as whole numbers.
-mod code;
-mod compare;
+// What is public here takes words of any content and has no `requires`; the functions of the modules
+// that are not, and stand behind it, may have one. The meaning of each is a definition of specs/,
+// which speaks of exact values as whole numbers.
+mod comparison;
+mod condition_code;
 mod convert;
-mod divide;
+mod division;
 mod normal;
+mod result;
 mod word;
 
-pub use code::complement;
-pub use code::general_code;
-pub use code::long_code;
-pub use code::short_code;
-pub use compare::compare_long;
-pub use compare::compare_short;
+pub use comparison::compare;
+pub use condition_code::complement;
+pub use condition_code::condition;
+pub use condition_code::general_condition;
 pub use convert::Fixed;
 pub use convert::to_fixed;
 pub use convert::to_float;
-pub use divide::LongQuotient;
-pub use divide::ShortQuotient;
-pub use divide::divide_long;
-pub use divide::divide_short;
+pub use division::divide;
+pub use result::Result;
 pub use word::Coded;
-pub use word::Long;
+pub use word::Width;
+pub use word::Words;

@@ -1,12 +1,13 @@
 -- Answers taken apart: what an answer that gives something says of the checks before it.
-use Prim.Native.Nat.{ℕ}
+use Prim.Native.Nat.{ℕ, _≤_}
 use mathlib.Core.Path.{_≡_, refl}
-use mathlib.Core.Bool.{Bool, true, false}
+use mathlib.Core.Bool.{Bool, true, false, cond}
 use lib.Dec.{eqb}
 use native.Mathlib.Omega.{arith}
-use borrow.Author.Tests.{eqb-true}
+use borrow.Author.Tests.{eqb-true, eqb-false}
 use Rattle.hexfloat.specs.Answer.{Answer, gives, stops, mapped}
-use Rattle.machine.specs.Says.{provided, checked}
+use Rattle.hexfloat.specs.Theorems.{Numbered, given, stopped}
+use Rattle.machine.specs.Says.{provided, checked, andThen}
 
 pub gives-inj : {A : Type 0} {x y : A} → gives x ≡ gives y → x ≡ y
 gives-inj h = cc
@@ -25,7 +26,39 @@ pub mapped-gives : {A B : Type 0} {y : B} (f : A → B) (a : Answer A) → mappe
 mapped-gives f (gives x) h = (x, refl, gives-inj h)
 mapped-gives f (stops n) h = never h
 
--- an answer whose stop, if it is one, is not the 0 of a step taken
-abbrev pub Real : {A : Type 0} → Answer A → Type 0
-Real (gives x) = Unit {0}
-Real (stops n) = n ≡ 0 → ⊥
+pub then-gives : {A B : Type 0} {y : B} (a : Answer A) (f : A → Answer B) → andThen a f ≡ gives y → (x : A) × (a ≡ gives x) × (f x ≡ gives y)
+then-gives (gives x) f h = (x, refl, h)
+then-gives (stops n) f h = never h
+
+-- an answer whose stop, if it is one, has a number that P holds of
+abbrev pub StopsBy : {A : Type 0} → (ℕ → Type 0) → Answer A → Type 0
+StopsBy P (gives x) = Unit {0}
+StopsBy P (stops n) = P n
+
+module _ (P : ℕ → Type 0) where
+  pub provided-by : {A : Type 0} (ok : Bool) (n : ℕ) (rest : Answer A) → P n → StopsBy P rest → StopsBy P (provided ok n rest)
+  provided-by true n rest h r = r
+  provided-by false n rest h r = h
+
+  pub checked-by : {A : Type 0} (k : ℕ) (rest : Answer A) → ((k ≡ 0 → ⊥) → P k) → StopsBy P rest → StopsBy P (checked k rest)
+  checked-by k rest h r = cases (eqb k 0) refl
+    where
+      cases : (b : Bool) → eqb k 0 ≡ b → StopsBy P (provided b k rest)
+      cases true e = r
+      cases false e = h (eqb-false k 0 e)
+
+  pub mapped-by : {A B : Type 0} (f : A → B) (a : Answer A) → StopsBy P a → StopsBy P (mapped f a)
+  mapped-by f (gives x) r = tt
+  mapped-by f (stops n) r = r
+
+  pub then-by : {A B : Type 0} (a : Answer A) (f : A → Answer B) → StopsBy P a → ((x : A) → StopsBy P (f x)) → StopsBy P (andThen a f)
+  then-by (gives x) f r h = h x
+  then-by (stops n) f r h = r
+
+  pub cond-by : {A : Type 0} (b : Bool) (x y : Answer A) → StopsBy P x → StopsBy P y → StopsBy P (cond b x y)
+  cond-by true x y p q = p
+  cond-by false x y p q = q
+
+  pub numbered-by : {A : Type 0} {lo hi : ℕ} {a : Answer A} → ((n : ℕ) → lo ≤ n → n ≤ hi → P n) → Numbered lo hi a → StopsBy P a
+  numbered-by h given = tt
+  numbered-by h (stopped {n} l u) = h n l u

@@ -1,148 +1,88 @@
--- No check answers 0: that is the number of a step taken.
-use Prim.Native.Nat.{ℕ, _-_, _/_, _%_}
-use mathlib.Core.Path.{_≡_, refl}
-use mathlib.Core.List.{List}
+-- The numbers of a step's stops: 1 to 13, and so never the 0 of a step taken.
+use Prim.Native.Nat.{ℕ, _+_, _/_, _≤_}
+use mathlib.Core.Path.{_≡_}
+use mathlib.Core.List.{List, [], _∷_}
 use mathlib.Core.Bool.{Bool, true, false, cond, not}
 use lib.Dec.{eqb, ltb}
 use lib.ListN.{length}
 use native.Mathlib.Omega.{arith}
-use borrow.Author.Tests.{eqb-false}
-use Rattle.hexfloat.specs.Answer.{Answer, gives, stops, mapped}
+use Rattle.hexfloat.specs.declared.word.Width.{Width}
+use Rattle.hexfloat.specs.declared.word.Words.{Words}
+use Rattle.hexfloat.specs.Answer.{gives, stops}
 use Rattle.hexfloat.specs.Convert.{toFixed}
-use Rattle.hexfloat.specs.Divide.{shortQuotient, longQuotient}
-use Rattle.machine.specs.declared.change.Change.{Change}
-use Rattle.machine.specs.declared.journal.Record.{Record}
-use Rattle.machine.specs.declared.verdict.Effect.{Effect}
-use Rattle.machine.specs.declared.order.Named.{Named}
+use Rattle.hexfloat.specs.Divide.{quotientWords}
+use Rattle.hexfloat.proofs.Conditions.{stops-numbered}
 use Rattle.machine.specs.declared.order.Operation.{Operation}
 use Rattle.machine.specs.declared.order.Order.{Order}
+use Rattle.machine.specs.declared.order.Verb.{Verb}
 use Rattle.machine.specs.declared.state.Registers.{Registers}
-use Rattle.machine.specs.declared.state.State.{State}
 use Rattle.machine.specs.Address.{addressOf}
-use Rattle.machine.specs.Back.{allowed, returning}
-use Rattle.machine.specs.Change.{placed, guarded}
-use Rattle.machine.specs.Check.{codeFormed, present}
-use Rattle.machine.specs.Decide.{heldStop, entryStop, judged, judgedAs, decided}
-use Rattle.machine.specs.Effect.{fixedEffect, shortResult, longResult, effectOf}
-use Rattle.machine.specs.Journal.{recordAt, oneFrom, changeFrom, effectFrom, decoded}
-use Rattle.machine.specs.Jump.{jumped, countedDown}
-use Rattle.machine.specs.Operand.{floatAt, floatPair, wordAt, longAt}
-use Rattle.machine.specs.Order.{orderAt, formOf, legalOf}
+use Rattle.machine.specs.Check.{present}
+use Rattle.machine.specs.Decide.{entryStop, judged, decided}
+use Rattle.machine.specs.Effect.{fixedInto, resultInto, performed, effectOf}
+use Rattle.machine.specs.Operand.{floatOperand, secondOperand}
+use Rattle.machine.specs.Order.{rowAmong, rows, operationOf, withinLimits, legalOf, spanOf, storedOf, isHalt, orderAt}
 use Rattle.machine.specs.Protect.{anyProtected}
-use Rattle.machine.specs.Says.{provided, checked, andThen}
-use Rattle.machine.proofs.Arithmetic.{fixed-real, short-real, long-real}
-use Rattle.machine.proofs.Answers.{Real}
+use Rattle.machine.specs.Says.{provided}
+use Rattle.machine.proofs.Answers.{StopsBy, provided-by, checked-by, mapped-by, then-by, cond-by, numbered-by}
+use Rattle.machine.proofs.Checks.{entry-number}
 
-provided-real : {A : Type 0} (ok : Bool) (n : ℕ) (rest : Answer A) → (n ≡ 0 → ⊥) → Real rest → Real (provided ok n rest)
-provided-real true n rest h r = r
-provided-real false n rest h r = h
+pub record StepNumber (n : ℕ) : Type 0 where
+  pub some : 1 ≤ n
+  pub most : n ≤ 13
 
-checked-real : {A : Type 0} (k : ℕ) (rest : Answer A) → Real rest → Real (checked k rest)
-checked-real k rest r = cases (eqb k 0) refl
-  where
-    cases : (b : Bool) → eqb k 0 ≡ b → Real (provided b k rest)
-    cases true e = r
-    cases false e = eqb-false k 0 e
+module _ (k : ℕ) (some : 1 ≤ k) (most : k ≤ 13) where
+  number : StepNumber k
+  number = record { some = some; most = most }
 
-mapped-real : {A B : Type 0} (f : A → B) (a : Answer A) → Real a → Real (mapped f a)
-mapped-real f (gives x) r = tt
-mapped-real f (stops n) r = r
+numbered : {lo hi : ℕ} → 1 ≤ lo → hi ≤ 13 → (n : ℕ) → lo ≤ n → n ≤ hi → StepNumber n
+numbered a b n l u = record { some = omega arith; most = omega arith }
 
-effect-real : (op : Operation) (o : Order) (g : Registers) (m : List ℕ) → Real (effectOf op o g m)
-unfolding effectOf jumped countedDown
-effect-real Operation.Ler o g m = tt
-effect-real Operation.Le o g m = tt
-effect-real Operation.Led o g m = tt
-effect-real Operation.Lecr o g m = tt
-effect-real Operation.Cer o g m = tt
-effect-real Operation.Ce o g m = tt
-effect-real Operation.Cedr o g m = tt
-effect-real Operation.Ced o g m = tt
-effect-real Operation.Cvfx o g m = mapped-real (fixedEffect g (o .r1)) (toFixed (floatAt g (o .r2))) (fixed-real _)
-effect-real Operation.Cvfl o g m = tt
-effect-real Operation.Der o g m =
-    mapped-real (shortResult g (o .r1)) (shortQuotient (eqb (g .mask) 1) (floatAt g (o .r1)) (floatAt g (o .r2))) (short-real _ _ _)
-effect-real Operation.De o g m =
-    mapped-real (shortResult g (o .r1)) (shortQuotient (eqb (g .mask) 1) (floatAt g (o .r1)) (wordAt m (addressOf o g))) (short-real _ _ _)
-effect-real Operation.Dedr o g m =
-    mapped-real (longResult g (o .r1)) (longQuotient (eqb (g .mask) 1) (floatPair g (o .r1)) (floatPair g (o .r2))) (long-real _ _ _)
-effect-real Operation.Ded o g m =
-    mapped-real (longResult g (o .r1)) (longQuotient (eqb (g .mask) 1) (floatPair g (o .r1)) (longAt m (addressOf o g))) (long-real _ _ _)
-effect-real Operation.Ste o g m = tt
-effect-real Operation.Sted o g m = tt
-effect-real Operation.L o g m = tt
-effect-real Operation.St o g m = tt
-effect-real Operation.Um o g m = tt
-effect-real Operation.Jc o g m = tt
-effect-real Operation.Jn o g m = tt
-effect-real Operation.Halt o g m = λ z. omega arith
+performed-by : (v : Verb) (w : Width) (o : Order) (g : Registers) (a : ℕ) (b : Words) → StopsBy StepNumber (performed v w o g a b)
+unfolding performed
+performed-by Verb.Load w o g a b = tt
+performed-by Verb.Complement w o g a b = tt
+performed-by Verb.Compare w o g a b = tt
+performed-by Verb.Fix w o g a b =
+    mapped-by StepNumber (fixedInto g (o .r1)) (toFixed (b .high)) (numbered-by StepNumber (numbered (omega arith) (omega arith)) (stops-numbered .fixed (b .high)))
+performed-by Verb.Float w o g a b = tt
+performed-by Verb.Divide w o g a b =
+    let mask = eqb (g .status .mask) 1 in
+    mapped-by StepNumber (resultInto w g (o .r1)) (quotientWords w mask (floatOperand w g (o .r1)) b)
+    (numbered-by StepNumber (numbered (omega arith) (omega arith)) (stops-numbered .quotient w mask (floatOperand w g (o .r1)) b))
+performed-by Verb.Store w o g a b = tt
+performed-by Verb.LoadGeneral w o g a b = tt
+performed-by Verb.StoreGeneral w o g a b = tt
+performed-by Verb.SetMask w o g a b = tt
+performed-by Verb.Jump w o g a b = tt
+performed-by Verb.CountDown w o g a b = tt
+performed-by Verb.Halt w o g a b = number 12 (omega arith) (omega arith)
 
-named-real : (k : Named) (o : Order) (s : State) (p m : List ℕ) (journal : ℕ) → Real (judgedAs k o s p m journal)
-unfolding judged
-named-real Named.Unknown o s p m journal = λ z. omega arith
-named-real (Named.Known op) o s p m journal =
-    provided-real (not (formOf op .halts)) 12 _ (λ z. omega arith)
-    (provided-real (ltb (s .used) (journal / 4)) 13 _ (λ z. omega arith)
-    (provided-real (present (formOf op .span) (addressOf o (s .registers)) (length m)) 6 _ (λ z. omega arith)
-    (provided-real (not (anyProtected p (addressOf o (s .registers)) (formOf op .stored))) 7 _ (λ z. omega arith)
-    (effect-real op o (s .registers) m))))
+judged-by : (o : Order) (g : Registers) (used : ℕ) (p m : List ℕ) (journal : ℕ) (op : Operation) → StopsBy StepNumber (judged o g used p m journal op)
+unfolding judged effectOf
+judged-by o g used p m journal op =
+    provided-by StepNumber (not (isHalt (op .verb))) 12 _ (number 12 (omega arith) (omega arith))
+    (provided-by StepNumber (ltb used (journal / 4)) 13 _ (number 13 (omega arith) (omega arith))
+    (provided-by StepNumber (present (spanOf op) (addressOf o g) (length m)) 6 _ (number 6 (omega arith) (omega arith))
+    (provided-by StepNumber (not (anyProtected p (addressOf o g) (storedOf op))) 7 _ (number 7 (omega arith) (omega arith))
+    (performed-by (op .verb) (op .width) o g (addressOf o g) (secondOperand (op .place) (op .width) o g m)))))
 
-pub decided-real : (d p : List ℕ) (s : State) (m : List ℕ) (journal : ℕ) → Real (decided d p s m journal)
+among-by : (ops : List Operation) (k n : ℕ) → StopsBy StepNumber (rowAmong ops k n)
+unfolding rowAmong
+among-by [] k n = number 5 (omega arith) (omega arith)
+among-by (op ∷ ops) k n = cond-by StepNumber (eqb n k) (gives op) (rowAmong ops (k + 1) n) tt (among-by ops (k + 1) n)
+
+legal-by : (o : Order) → StopsBy StepNumber (legalOf o)
+unfolding legalOf operationOf
+legal-by o =
+    then-by StepNumber (operationOf (o .code)) (λ op. provided (withinLimits op o) 5 (gives op)) (among-by rows 1 (o .code))
+    (λ op. provided-by StepNumber (withinLimits op o) 5 _ (number 5 (omega arith) (omega arith)) tt)
+
+pub decided-by : (d p : List ℕ) (g : Registers) (used : ℕ) (m : List ℕ) (journal : ℕ) → StopsBy StepNumber (decided d p g used m journal)
 unfolding decided
-decided-real d p s m journal =
-    checked-real (entryStop (length d) (length p) s (length m) journal) _
-    (provided-real (ltb (s .registers .pointer) (length d / 4)) 4 _ (λ z. omega arith)
-    (named-real (legalOf (orderAt d (s .registers .pointer))) (orderAt d (s .registers .pointer)) s p m journal))
-
-then-real : {A B : Type 0} (a : Answer A) (f : A → Answer B) → Real a → ((x : A) → Real (f x)) → Real (andThen a f)
-then-real (gives x) f r h = h x
-then-real (stops n) f r h = r
-
-one-real : (k place left : ℕ) → Real (oneFrom k place left)
-unfolding oneFrom
-one-real k place left = cases (eqb k 1) (eqb k 3) (eqb k 4)
-  where
-    cases :
-        (a b c : Bool) →
-        Real (cond a (gives (Change.Float place left)) (cond b (gives (Change.General place left)) (cond c (gives (Change.Two place left)) (stops 15))))
-    cases true b c = tt
-    cases false true c = tt
-    cases false false true = tt
-    cases false false false = λ z. omega arith
-
-change-real : (k place left right : ℕ) → Real (changeFrom k place left right)
-unfolding changeFrom
-change-real k place left right = cases (eqb k 2) (eqb k 5) (eqb k 0)
-  where
-    none : Real (provided (eqb place 0) 15 (provided (eqb left 0) 15 (gives Change.Nothing)))
-    none = provided-real (eqb place 0) 15 _ (λ z. omega arith) (provided-real (eqb left 0) 15 _ (λ z. omega arith) tt)
-
-    cases :
-        (a b c : Bool) →
-        Real
-        (cond a (gives (Change.Pair place left right))
-        (cond b (gives (Change.Four place left right))
-        (provided (eqb right 0) 15
-        (cond c (provided (eqb place 0) 15 (provided (eqb left 0) 15 (gives Change.Nothing))) (oneFrom k place left)))))
-    cases true b c = tt
-    cases false true c = tt
-    cases false false true = provided-real (eqb right 0) 15 _ (λ z. omega arith) none
-    cases false false false = provided-real (eqb right 0) 15 _ (λ z. omega arith) (one-real k place left)
-
-decoded-real : (q : Record) → Real (decoded q)
-unfolding decoded
-decoded-real q =
-    provided-real (codeFormed (q .head / 65536 % 4)) 15 _ (λ z. omega arith)
-    (mapped-real (effectFrom (q .head)) (changeFrom (q .head / 524288) (q .place) (q .left) (q .right)) (change-real _ _ _ _))
-
-allowed-real : (e : Effect) (p : List ℕ) (memory : ℕ) → Real (allowed e p memory)
-unfolding allowed
-allowed-real e p memory =
-    provided-real (placed (e .change) memory) 15 _ (λ z. omega arith) (provided-real (not (guarded p (e .change))) 15 _ (λ z. omega arith) tt)
-
-pub returning-real : (p : List ℕ) (s : State) (memory : ℕ) (j : List ℕ) → Real (returning p s memory j)
-unfolding returning
-returning-real p s memory j =
-    checked-real (heldStop (length p) s memory (length j)) _
-    (provided-real (not (eqb (s .used) 0)) 14 _ (λ z. omega arith)
-    (then-real (decoded (recordAt j (s .used - 1))) (λ e. allowed e p memory) (decoded-real _) (λ e. allowed-real e p memory)))
+decided-by d p g used m journal =
+    let o = orderAt d (g .status .pointer) in
+    let k = entryStop (length d) (length p) g used (length m) journal in
+    checked-by StepNumber k _ (λ z. record { some = omega arith; most = omega (arith, entry-number (length p) g used (length m) journal (length d)) })
+    (provided-by StepNumber (ltb (g .status .pointer) (length d / 4)) 4 _ (number 4 (omega arith) (omega arith))
+    (then-by StepNumber (legalOf o) (judged o g used p m journal) (legal-by o) (judged-by o g used p m journal)))

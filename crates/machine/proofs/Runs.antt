@@ -1,15 +1,21 @@
--- A run, a step at a time.
+-- A run, a step at a time; and a step as a run of one.
 use Prim.Native.Nat.{ℕ, suc, _+_, _-_, _<_, _≤_}
+use lib.Dec.{eqb}
 use lib.ListN.{length}
 use native.Mathlib.Nat.{add-zero, zero-add}
-use mathlib.Core.Path.{_≡_, refl, ap, _∙_}
+use mathlib.Core.Path.{_≡_, refl, sym, ap, subst, _∙_}
 use mathlib.Core.List.{List}
+use mathlib.Core.Bool.{Bool, true, false, cond}
 use native.Mathlib.Omega.{arith}
+use borrow.Author.Tests.{eqb-false, ne-eqb}
 use Rattle.hexfloat.specs.Answer.{Answer, gives, stops}
 use Rattle.machine.specs.declared.verdict.Effect.{Effect}
+use Rattle.machine.specs.Decide.{decided}
 use Rattle.machine.specs.Machine.{Machine, committed}
-use Rattle.machine.specs.Run.{repeated}
+use Rattle.machine.specs.Run.{repeated, entryOf, ran}
 use Rattle.machine.specs.Step.{Outcome, outcome, single, counted, onward, verdictOf, stepped}
+use Rattle.machine.proofs.Answers.{StopsBy}
+use Rattle.machine.proofs.Refusals.{StepNumber, decided-by}
 
 -- an outcome with n steps before it
 abbrev pub grown : {W : Type 0} → ℕ → Outcome W → Outcome W
@@ -20,35 +26,54 @@ module _ (d p : List ℕ) where
   abbrev pub steps : ℕ → Machine → Outcome Machine
   steps n x = repeated (verdictOf d p) (λ y e. committed e y) n x
 
-  on-cases :
-      (a : Answer Effect) (n : ℕ) (x y : Machine) → single y 0 ≡ onward a x (λ e. committed e x) (λ z. outcome z 0 0) →
-      onward a x (λ e. committed e x) (steps n) ≡ counted (steps n y)
-  on-cases (stops k) n x y h = let z : _≡_ {A = ℕ} 1 0 = ap (λ (r : Outcome Machine). r .taken) h in absurd (omega arith)
-  on-cases (gives e) n x y h = let same : y ≡ committed e x = ap (λ (r : Outcome Machine). r .after) h in rw same
+  -- a step that is taken, and what is left of the limit
+  step-on : (n : ℕ) (x : Machine) (e : Effect) → verdictOf d p x ≡ gives e → steps (suc n) x ≡ counted (steps n (committed e x))
+  unfolding repeated
+  step-on n x e h = rw h
 
-  -- a step that was taken, and what is left of the limit
-  pub step-on : (n : ℕ) (x y : Machine) → single y 0 ≡ stepped d p x → steps (suc n) x ≡ counted (steps n y)
-  unfolding repeated stepped
-  step-on n x y h = on-cases (verdictOf d p x) n x y h
-
-  stop-cases :
-      (a : Answer Effect) (n k : ℕ) (x y : Machine) → (k ≡ 0 → ⊥) → single y k ≡ onward a x (λ e. committed e x) (λ z. outcome z 0 0) →
-      onward a x (λ e. committed e x) (steps n) ≡ outcome y 0 k
-  stop-cases (stops l) n k x y some h =
-      let same : y ≡ x = ap (λ (r : Outcome Machine). r .after) h in
-      let stop : k ≡ l = ap (λ (r : Outcome Machine). r .stop) h in
-      rw (same, stop)
-  stop-cases (gives e) n k x y some h = absurd (some (ap (λ (r : Outcome Machine). r .stop) h))
-
-  -- a step that was stopped
-  pub step-stop : (n k : ℕ) (x y : Machine) → (k ≡ 0 → ⊥) → single y k ≡ stepped d p x → steps (suc n) x ≡ outcome y 0 k
-  unfolding repeated stepped
-  step-stop n k x y some h = stop-cases (verdictOf d p x) n k x y some h
+  -- a step that is stopped
+  step-stop : (n k : ℕ) (x : Machine) → verdictOf d p x ≡ stops k → steps (suc n) x ≡ outcome x 0 k
+  unfolding repeated
+  step-stop n k x h = rw h
 
   -- the limit is reached
-  pub steps-none : (n : ℕ) (x : Machine) → n ≡ 0 → steps n x ≡ outcome x 0 0
+  steps-none : (n : ℕ) (x : Machine) → n ≡ 0 → steps n x ≡ outcome x 0 0
   unfolding repeated
   steps-none n x h = rw h
+
+  -- checks 1 to 3 are the first of a step too
+  pub entry-stops : (x : Machine) → (entryOf d p x ≡ 0 → ⊥) → verdictOf d p x ≡ stops (entryOf d p x)
+  unfolding decided
+  entry-stops x h = rw (ne-eqb (entryOf d p x) 0 h)
+
+  -- a run of one is a step
+  pub run-one : (x : Machine) → ran d p 1 x ≡ stepped d p x
+  unfolding ran repeated stepped
+  run-one x = cases (eqb (entryOf d p x) 0) refl
+    where
+      cases :
+          (b : Bool) → eqb (entryOf d p x) 0 ≡ b →
+          cond b (steps 1 x) (outcome x 0 (entryOf d p x)) ≡ onward (verdictOf d p x) x (λ e. committed e x) (λ y. outcome y 0 0)
+      cases true e = refl
+      cases false e = rw (entry-stops x (eqb-false (entryOf d p x) 0 e))
+
+  -- a step counts as one exactly where its answer is 0
+  stepped-single : (x : Machine) → stepped d p x ≡ single (stepped d p x .after) (stepped d p x .stop)
+  unfolding stepped
+  stepped-single x = cases (verdictOf d p x) (decided-by d p (x .state .registers) (x .state .used) (x .memory) (length (x .journal)))
+    where
+      cases :
+          (a : Answer Effect) → StopsBy StepNumber a →
+          (let r = onward a x (λ e. committed e x) (λ y. outcome y 0 0) in r ≡ single (r .after) (r .stop))
+      cases (gives e) s = refl
+      cases (stops k) s = rw (ne-eqb k 0 (λ z. omega (arith, s .some)))
+
+  pub one-step : (x y : Machine) (n k : ℕ) → outcome y n k ≡ ran d p 1 x → single y k ≡ stepped d p x
+  one-step x y n k h =
+      let e : outcome y n k ≡ stepped d p x = h ∙ run-one x in
+      let after : y ≡ stepped d p x .after = ap (λ (r : Outcome Machine). r .after) e in
+      let stop : k ≡ stepped d p x .stop = ap (λ (r : Outcome Machine). r .stop) e in
+      ap (λ (z : Machine). single z k) after ∙ ap (λ (i : ℕ). single (stepped d p x .after) i) stop ∙ sym (stepped-single x)
 
 -- a loop of steps: x and count are what the first count steps from start lead to
 pub record Under (d p : List ℕ) (limit : ℕ) (start x : Machine) (count : ℕ) : Type 0 where
@@ -63,27 +88,27 @@ module _ (d p : List ℕ) (limit : ℕ) (start : Machine) where
       let e : limit - 0 ≡ limit = omega arith in
       record { same = rw (e, zero-add); within = omega arith; memory = refl; journal = refl }
 
-  module _ (x y : Machine) (count : ℕ) (u : Under d p limit start x count) where
+  module _ (x : Machine) (count : ℕ) (u : Under d p limit start x count) where
     left-over : count < limit → limit - count ≡ suc (limit - (count + 1))
     left-over h = omega arith
 
     pub under-on :
-        count < limit → single y 0 ≡ stepped d p x → length (y .memory) ≡ length (x .memory) → length (y .journal) ≡ length (x .journal) →
-        Under d p limit start y (count + 1)
-    under-on h s m j =
+        (e : Effect) (y : Machine) → count < limit → verdictOf d p x ≡ gives e → y ≡ committed e x →
+        length (y .memory) ≡ length (x .memory) → length (y .journal) ≡ length (x .journal) → Under d p limit start y (count + 1)
+    under-on e y h v s m j =
         let n = limit - (count + 1) in
-        let on : steps d p (limit - count) x ≡ counted (steps d p n y) = rw (left-over h) (step-on d p n x y s) in
-        let e : count + (steps d p n y .taken + 1) ≡ count + 1 + steps d p n y .taken = omega arith in
+        let on : steps d p (limit - count) x ≡ counted (steps d p n y) = rw (left-over h, s) (step-on d p n x e v) in
+        let sum : count + (steps d p n y .taken + 1) ≡ count + 1 + steps d p n y .taken = omega arith in
         record {
-          same = u .same ∙ rw (on, e);
+          same = u .same ∙ rw (on, sum);
           within = omega arith;
           memory = m ∙ u .memory;
           journal = j ∙ u .journal;
         }
 
-    pub under-stop : (k : ℕ) → count < limit → (k ≡ 0 → ⊥) → single y k ≡ stepped d p x → steps d p limit start ≡ outcome y count k
-    under-stop k h some s =
-        let stop : steps d p (limit - count) x ≡ outcome y 0 k = rw (left-over h) (step-stop d p (limit - (count + 1)) k x y some s) in
+    pub under-stop : (k : ℕ) → count < limit → verdictOf d p x ≡ stops k → steps d p limit start ≡ outcome x count k
+    under-stop k h v =
+        let stop : steps d p (limit - count) x ≡ outcome x 0 k = rw (left-over h) (step-stop d p (limit - (count + 1)) k x v) in
         u .same ∙ rw (stop, add-zero)
 
   pub under-end : (x : Machine) (count : ℕ) → Under d p limit start x count → limit ≤ count → steps d p limit start ≡ outcome x count 0

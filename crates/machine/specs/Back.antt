@@ -14,14 +14,14 @@ use Rattle.machine.specs.Machine.{Machine, machine, stateAfter}
 use Rattle.machine.specs.Says.{provided, checked, andThen}
 use Rattle.machine.specs.Step.{Outcome, outcome}
 
--- no register above 7, no halfword absent or protected
+-- no halfword absent or protected
 unfoldable pub allowed : Effect → List ℕ → ℕ → Answer Effect
 allowed e p memory = provided (placed (e .change) memory) 15 (provided (not (guarded p (e .change))) 15 (gives e))
 
 -- what record used - 1 puts back
 unfoldable pub returning : List ℕ → State → ℕ → List ℕ → Answer Effect
 returning p s memory j =
-    checked (heldStop (length p) s memory (length j))
+    checked (heldStop (length p) (s .registers) (s .used) memory (length j))
     (provided (not (eqb (s .used) 0)) 14
     (andThen (decoded (recordAt j (s .used - 1))) (λ e. allowed e p memory)))
 

@@ -4,7 +4,8 @@ use mathlib.Core.List.{List}
 use mathlib.Core.Bool.{Bool, true, false}
 use lib.ListN.{set}
 use lib.Dec.{leb}
-use Rattle.hexfloat.specs.declared.word.Long.{Long}
+use Rattle.hexfloat.specs.declared.word.Width.{Width}
+use Rattle.hexfloat.specs.declared.word.Words.{Words}
 use Rattle.machine.specs.declared.change.Change.{Change}
 use Rattle.machine.specs.declared.state.Registers.{Registers}
 use Rattle.machine.specs.declared.verdict.Effect.{Effect}
@@ -20,12 +21,12 @@ registered (Change.General r w) = leb r 7
 registered (Change.Two a w) = true
 registered (Change.Four a hi lo) = true
 
--- no register above 7, and no halfword absent
+-- no halfword absent
 unfoldable pub placed : Change → ℕ → Bool
 placed Change.Nothing memory = true
-placed (Change.Float r w) memory = leb r 7
-placed (Change.Pair r hi lo) memory = leb r 7
-placed (Change.General r w) memory = leb r 7
+placed (Change.Float r w) memory = true
+placed (Change.Pair r hi lo) memory = true
+placed (Change.General r w) memory = true
 placed (Change.Two a w) memory = leb (a + 2) memory
 placed (Change.Four a hi lo) memory = leb (a + 4) memory
 
@@ -39,11 +40,21 @@ guarded p (Change.Two a w) = anyProtected p a 2
 guarded p (Change.Four a hi lo) = anyProtected p a 4
 
 -- a pair with its two words
-abbrev pub pairOf : ℕ → Long → Change
+abbrev pub pairOf : ℕ → Words → Change
 pairOf r a = Change.Pair r (a .high) (a .low)
 
-abbrev pub fourOf : ℕ → Long → Change
+abbrev pub fourOf : ℕ → Words → Change
 fourOf at a = Change.Four at (a .high) (a .low)
+
+-- a result or operand into R r, or into pair r; the second register of a pair stays under a short order
+unfoldable pub floatChange : Width → ℕ → Words → Change
+floatChange Width.Short r a = Change.Float r (a .high)
+floatChange Width.Long r a = pairOf r a
+
+-- an operand into S
+unfoldable pub storageChange : Width → ℕ → Words → Change
+storageChange Width.Short at a = Change.Two at (a .high)
+storageChange Width.Long at a = fourOf at a
 
 -- the same places with their present contents
 unfoldable pub oldOf : Registers → List ℕ → Change → Change
@@ -86,7 +97,5 @@ abbrev pub registersAfter : Effect → Registers → Registers
 registersAfter e g = record {
   float = floatAfter (e .change) (g .float);
   general = generalAfter (e .change) (g .general);
-  code = e .code;
-  mask = e .mask;
-  pointer = e .pointer;
+  status = e .status;
 }

@@ -2,9 +2,10 @@
 use lib.ListN.{replicate}
 use Rattle.machine.specs.declared.state.Registers.{Registers}
 use Rattle.machine.specs.declared.state.State.{State}
+use Rattle.machine.specs.Status.{status}
 
 abbrev pub freshRegisters : Registers
-freshRegisters = record { float = replicate 8 0; general = replicate 8 0; code = 0; mask = 0; pointer = 0 }
+freshRegisters = record { float = replicate 8 0; general = replicate 8 0; status = status 0 0 0 }
 
 -- a fresh state is all zero
 abbrev pub freshState : State

@@ -1,17 +1,20 @@
 -- The journal's records (document 01, 'Journal and back steps'): four words a record. Word 0 is pointer + 2^16 · CC + 2^18 · mask + 2^19 · kind,
 -- word 1 the register or address, words 2 and 3 contents, leftmost first; unused words are 0.
-use Prim.Native.Nat.{ℕ, _+_, _*_, _/_, _%_}
+use Prim.Native.Nat.{ℕ, _+_, _*_, _/_, _^_, _<_, _≤_}
+use mathlib.Core.Path.{_≡_}
 use mathlib.Core.List.{List}
-use mathlib.Core.Bool.{cond}
+use mathlib.Core.Bool.{true, cond}
 use lib.ListN.{getD, set}
-use lib.Dec.{eqb}
+use lib.Dec.{eqb, leb}
 use Rattle.hexfloat.specs.Answer.{Answer, gives, stops, mapped}
 use Rattle.machine.specs.declared.change.Change.{Change}
 use Rattle.machine.specs.declared.journal.Record.{Record}
 use Rattle.machine.specs.declared.journal.Decoded.{Decoded}
 use Rattle.machine.specs.declared.verdict.Effect.{Effect}
-use Rattle.machine.specs.Check.{codeFormed}
+use Rattle.machine.specs.declared.state.Status.{Status}
+use Rattle.machine.specs.Change.{registered}
 use Rattle.machine.specs.Says.{provided}
+use Rattle.machine.specs.Status.{conditionFormed, packed, unpacked}
 
 abbrev pub fourWords : ℕ → ℕ → ℕ → ℕ → Record
 fourWords a b c d = record { head = a; place = b; left = c; right = d }
@@ -23,50 +26,50 @@ recordAt j k = fourWords (getD j (k * 4) 0) (getD j (k * 4 + 1) 0) (getD j (k * 
 unfoldable pub written : List ℕ → ℕ → Record → List ℕ
 written j k q = set (set (set (set j (k * 4) (q .head)) (k * 4 + 1) (q .place)) (k * 4 + 2) (q .left)) (k * 4 + 3) (q .right)
 
--- kind 0 nothing, 1 a float register, 2 a float pair, 3 a general register, 4 two halfwords, 5 four; base is word 0 but for the kind
+-- kind 0 nothing else changed, 1 a float register, 2 a float pair, 3 a general register, 4 two halfwords, 5 four; base is word 0 but for the kind
 unfoldable pub encodedAs : ℕ → Change → Record
 encodedAs base Change.Nothing = fourWords base 0 0 0
-encodedAs base (Change.Float r w) = fourWords (base + 0x80000 * 1) r w 0
-encodedAs base (Change.Pair r hi lo) = fourWords (base + 0x80000 * 2) r hi lo
-encodedAs base (Change.General r w) = fourWords (base + 0x80000 * 3) r w 0
-encodedAs base (Change.Two a w) = fourWords (base + 0x80000 * 4) a w 0
-encodedAs base (Change.Four a hi lo) = fourWords (base + 0x80000 * 5) a hi lo
+encodedAs base (Change.Float r w) = fourWords (base + 2 ^ 19 * 1) r w 0
+encodedAs base (Change.Pair r hi lo) = fourWords (base + 2 ^ 19 * 2) r hi lo
+encodedAs base (Change.General r w) = fourWords (base + 2 ^ 19 * 3) r w 0
+encodedAs base (Change.Two a w) = fourWords (base + 2 ^ 19 * 4) a w 0
+encodedAs base (Change.Four a hi lo) = fourWords (base + 2 ^ 19 * 5) a hi lo
 
 abbrev pub encoded : Effect → Record
-encoded e = encodedAs (e .pointer + 0x10000 * e .code + 0x40000 * e .mask) (e .change)
+encoded e = encodedAs (packed (e .status)) (e .change)
 
+-- what the code's answer says: a record that is not of its form is a 15
 abbrev pub saysChange : Decoded → Answer Change
 saysChange (Decoded.Formed ch) = gives ch
 saysChange Decoded.Broken = stops 15
 
--- the kinds whose word 3 is not in use, but for 0
-unfoldable pub oneFrom : ℕ → ℕ → ℕ → Answer Change
-oneFrom k place left =
-    cond (eqb k 1) (gives (Change.Float place left))
-    (cond (eqb k 3) (gives (Change.General place left))
-    (cond (eqb k 4) (gives (Change.Two place left))
-    (stops 15)))
+-- a register above 7, or an unused word that is not 0, breaks the form
+abbrev pub inRegister : ℕ → ℕ → Change → Answer Change
+inRegister r unused ch = provided (leb r 7) 15 (provided (eqb unused 0) 15 (gives ch))
 
--- a kind above 5 and an unused word not 0 break the form; a higher bit set makes a kind above 5
+-- the form of a record by its kind; a kind above 5 breaks it, and so does a higher bit in word 0, since it makes such a kind
 unfoldable pub changeFrom : ℕ → ℕ → ℕ → ℕ → Answer Change
-changeFrom k place left right =
-    cond (eqb k 2) (gives (Change.Pair place left right))
-    (cond (eqb k 5) (gives (Change.Four place left right))
-    (provided (eqb right 0) 15
-    (cond (eqb k 0)
-    (provided (eqb place 0) 15 (provided (eqb left 0) 15 (gives Change.Nothing)))
-    (oneFrom k place left))))
+changeFrom kind place left right =
+    cond (eqb kind 0) (provided (eqb place 0) 15 (provided (eqb left 0) 15 (provided (eqb right 0) 15 (gives Change.Nothing))))
+    (cond (eqb kind 1) (inRegister place right (Change.Float place left))
+    (cond (eqb kind 2) (inRegister place 0 (Change.Pair place left right))
+    (cond (eqb kind 3) (inRegister place right (Change.General place left))
+    (cond (eqb kind 4) (provided (eqb right 0) 15 (gives (Change.Two place left)))
+    (cond (eqb kind 5) (gives (Change.Four place left right))
+    (stops 15))))))
 
-abbrev pub effectFrom : ℕ → Change → Effect
-effectFrom head ch = record {
-  change = ch;
-  code = head / 0x10000 % 4;
-  mask = head / 0x40000 % 2;
-  pointer = head % 0x10000;
-}
+abbrev pub effectFrom : Status → Change → Effect
+effectFrom s ch = record { change = ch; status = s }
 
 -- condition code 2 breaks the form too
 unfoldable pub decoded : Record → Answer Effect
 decoded q =
-    provided (codeFormed (q .head / 0x10000 % 4)) 15
-    (mapped (effectFrom (q .head)) (changeFrom (q .head / 0x80000) (q .place) (q .left) (q .right)))
+    provided (conditionFormed (unpacked (q .head) .condition)) 15
+    (mapped (effectFrom (unpacked (q .head))) (changeFrom (q .head / 2 ^ 19) (q .place) (q .left) (q .right)))
+
+-- the effects that have a record: condition code 0, 1 or 3, mask 0 or 1, a 16-bit pointer, registers below 8
+pub record Recordable (e : Effect) : Type 0 where
+  pub condition : conditionFormed (e .status .condition) ≡ true
+  pub mask : e .status .mask ≤ 1
+  pub pointer : e .status .pointer < 65536
+  pub registers : registered (e .change) ≡ true

@@ -6,8 +6,9 @@ use mathlib.Core.Bool.{true}
 use Rattle.machine.specs.declared.state.Registers.{Registers}
 use Rattle.machine.specs.declared.state.State.{State}
 use Rattle.machine.specs.declared.verdict.Effect.{Effect}
-use Rattle.machine.specs.Change.{oldOf, memoryAfter, registersAfter, placed}
+use Rattle.machine.specs.Change.{oldOf, memoryAfter, registersAfter, registered, placed}
 use Rattle.machine.specs.Journal.{encoded, written}
+use Rattle.machine.specs.Status.{Packable}
 
 pub record Machine : Type 0 where
   pub state : State
@@ -17,12 +18,15 @@ pub record Machine : Type 0 where
 abbrev pub machine : State → List ℕ → List ℕ → Machine
 machine s m j = record { state = s; memory = m; journal = j }
 
-abbrev pub stateAfter : Effect → ℕ → State → State
-stateAfter e used s = record { registers = registersAfter e (s .registers); used = used }
+abbrev pub state : Registers → ℕ → State
+state g used = record { registers = g; used = used }
 
--- what a step overwrites, with the code, mask and pointer from before it
+abbrev pub stateAfter : Effect → ℕ → State → State
+stateAfter e used s = state (registersAfter e (s .registers)) used
+
+-- what a step overwrites, with the status from before it
 abbrev pub beforeOf : Registers → List ℕ → Effect → Effect
-beforeOf g m e = record { change = oldOf g m (e .change); code = g .code; mask = g .mask; pointer = g .pointer }
+beforeOf g m e = record { change = oldOf g m (e .change); status = g .status }
 
 -- the effect takes place, its record is written at the used count and nowhere else, and the used count goes up by one
 abbrev pub committed : Effect → Machine → Machine
@@ -33,9 +37,9 @@ committed e x =
     (written (x .journal) (x .state .used) (encoded (beforeOf (x .state .registers) (x .memory) e)))
 
 -- what the checks leave known where an effect is committed
-pub record Committable (e : Effect) (s : State) (memory journal : ℕ) : Type 0 where
+pub record Committable (e : Effect) (g : Registers) (used memory journal : ℕ) : Type 0 where
+  pub registers : registered (e .change) ≡ true
   pub there : placed (e .change) memory ≡ true
-  pub room : s .used * 4 + 4 ≤ journal
-  pub count : s .used < 4096
-  pub code : s .registers .code < 4
-  pub mask : s .registers .mask < 2
+  pub room : used * 4 + 4 ≤ journal
+  pub count : used < 4096
+  pub status : Packable (g .status)

@@ -1,13 +1,17 @@
 -- The orders and check 5 (document 01, 'Orders' and row 5 of the causes).
 use Prim.Native.Nat.{ℕ, _+_, _*_}
-use mathlib.Core.List.{List}
+use mathlib.Core.List.{List, [], _∷_}
 use mathlib.Core.Bool.{Bool, true, false, cond, _&&_}
 use lib.ListN.{getD}
 use lib.Dec.{eqb, leb}
+use Rattle.hexfloat.specs.declared.word.Width.{Width}
+use Rattle.hexfloat.specs.Answer.{Answer, gives, stops}
 use Rattle.machine.specs.declared.order.Order.{Order}
 use Rattle.machine.specs.declared.order.Operation.{Operation}
-use Rattle.machine.specs.declared.order.Named.{Named}
-use Rattle.machine.specs.declared.order.Form.{Form}
+use Rattle.machine.specs.declared.order.Verb.{Verb}
+use Rattle.machine.specs.declared.order.Place.{Place}
+use Rattle.machine.specs.declared.order.Legality.{Legality}
+use Rattle.machine.specs.Says.{provided, andThen}
 
 -- four cells an order: code, r1, r2, at
 abbrev pub orderAt : List ℕ → ℕ → Order
@@ -18,74 +22,120 @@ orderAt deck p = record {
   at = getD deck (p * 4 + 3) 0;
 }
 
--- the table's codes
-unfoldable pub operationOf : ℕ → Named
-operationOf n =
-    cond (eqb n 1) (Named.Known Operation.Ler)
-    (cond (eqb n 2) (Named.Known Operation.Le)
-    (cond (eqb n 3) (Named.Known Operation.Led)
-    (cond (eqb n 4) (Named.Known Operation.Lecr)
-    (cond (eqb n 5) (Named.Known Operation.Cer)
-    (cond (eqb n 6) (Named.Known Operation.Ce)
-    (cond (eqb n 7) (Named.Known Operation.Cedr)
-    (cond (eqb n 8) (Named.Known Operation.Ced)
-    (cond (eqb n 9) (Named.Known Operation.Cvfx)
-    (cond (eqb n 10) (Named.Known Operation.Cvfl)
-    (cond (eqb n 11) (Named.Known Operation.Der)
-    (cond (eqb n 12) (Named.Known Operation.De)
-    (cond (eqb n 13) (Named.Known Operation.Dedr)
-    (cond (eqb n 14) (Named.Known Operation.Ded)
-    (cond (eqb n 15) (Named.Known Operation.Ste)
-    (cond (eqb n 16) (Named.Known Operation.Sted)
-    (cond (eqb n 17) (Named.Known Operation.L)
-    (cond (eqb n 18) (Named.Known Operation.St)
-    (cond (eqb n 19) (Named.Known Operation.Um)
-    (cond (eqb n 20) (Named.Known Operation.Jc)
-    (cond (eqb n 21) (Named.Known Operation.Jn)
-    (cond (eqb n 22) (Named.Known Operation.Halt)
-    Named.Unknown)))))))))))))))))))))
+-- A row of document 01's table: what the order does, how wide its operands are, where its second operand is, and the largest r1, r2 and `at`,
+-- a cell not named for the order being 0.
+abbrev pub row : Verb → Width → Place → ℕ → ℕ → ℕ → Operation
+row v w p a b c = record { verb = v; width = w; place = p; r1 = a; r2 = b; at = c }
 
--- over registers alone: `at` is not in use
-abbrev pub registerForm : ℕ → ℕ → Bool → Form
-registerForm a b h = record { r1 = a; r2 = b; at = 0; span = 0; stored = 0; halts = h }
+-- r1 r2, the second operand being R r2
+abbrev pub onFloat : Verb → Width → Operation
+onFloat v w = row v w Place.FloatRegister 7 7 0
 
--- with `at`, any cell: S has `span` halfwords, of which `stored` are stored
-abbrev pub placeForm : ℕ → ℕ → Form
-placeForm span stored = record { r1 = 7; r2 = 0; at = 65535; span = span; stored = stored; halts = false }
+-- r1 r2, the second operand being G r2
+abbrev pub onGeneral : Verb → Width → Operation
+onGeneral v w = row v w Place.GeneralRegister 7 7 0
 
--- each operation's largest r1, r2 and `at`, a cell not in use being 0; the halfwords of S, and how many of them are stored
-unfoldable pub formOf : Operation → Form
-formOf Operation.Ler = registerForm 7 7 false
-formOf Operation.Le = placeForm 2 0
-formOf Operation.Led = placeForm 4 0
-formOf Operation.Lecr = registerForm 7 7 false
-formOf Operation.Cer = registerForm 7 7 false
-formOf Operation.Ce = placeForm 2 0
-formOf Operation.Cedr = registerForm 7 7 false
-formOf Operation.Ced = placeForm 4 0
-formOf Operation.Cvfx = registerForm 7 7 false
-formOf Operation.Cvfl = registerForm 7 7 false
-formOf Operation.Der = registerForm 7 7 false
-formOf Operation.De = placeForm 2 0
-formOf Operation.Dedr = registerForm 7 7 false
-formOf Operation.Ded = placeForm 4 0
-formOf Operation.Ste = placeForm 2 2
-formOf Operation.Sted = placeForm 4 4
-formOf Operation.L = placeForm 2 0
-formOf Operation.St = placeForm 2 2
-formOf Operation.Um = registerForm 0 1 false
-formOf Operation.Jc = placeForm 0 0
-formOf Operation.Jn = placeForm 0 0
-formOf Operation.Halt = registerForm 0 0 true
+-- r1 at, the second operand being S
+abbrev pub onStorage : Verb → Width → Operation
+onStorage v w = row v w Place.Storage 7 0 65535
+
+-- no second operand
+abbrev pub onCells : Verb → ℕ → ℕ → ℕ → Operation
+onCells v a b c = row v Width.Short Place.Nowhere a b c
+
+-- The table from code 1 on: LER, LE, LED, LECR; CER, CE, CEDR, CED; CVFX, CVFL; DER, DE, DEDR, DED; STE, STED, L, ST; UM, JC, JN, HALT.
+abbrev pub rows : List Operation
+rows =
+    onFloat Verb.Load Width.Short
+    ∷ onStorage Verb.Load Width.Short
+    ∷ onStorage Verb.Load Width.Long
+    ∷ onFloat Verb.Complement Width.Short
+    ∷ onFloat Verb.Compare Width.Short
+    ∷ onStorage Verb.Compare Width.Short
+    ∷ onFloat Verb.Compare Width.Long
+    ∷ onStorage Verb.Compare Width.Long
+    ∷ onFloat Verb.Fix Width.Short
+    ∷ onGeneral Verb.Float Width.Short
+    ∷ onFloat Verb.Divide Width.Short
+    ∷ onStorage Verb.Divide Width.Short
+    ∷ onFloat Verb.Divide Width.Long
+    ∷ onStorage Verb.Divide Width.Long
+    ∷ onStorage Verb.Store Width.Short
+    ∷ onStorage Verb.Store Width.Long
+    ∷ onStorage Verb.LoadGeneral Width.Short
+    ∷ onStorage Verb.StoreGeneral Width.Short
+    ∷ onCells Verb.SetMask 0 1 0
+    ∷ onCells Verb.Jump 7 0 65535
+    ∷ onCells Verb.CountDown 7 0 65535
+    ∷ onCells Verb.Halt 0 0 0
+    ∷ []
+
+-- the row of code n among some rows, the first of which has the code k; an unknown code is a 5
+unfoldable pub rowAmong : List Operation → ℕ → ℕ → Answer Operation
+rowAmong [] k n = stops 5
+rowAmong (op ∷ ops) k n = cond (eqb n k) (gives op) (rowAmong ops (k + 1) n)
+
+unfoldable pub operationOf : ℕ → Answer Operation
+operationOf n = rowAmong rows 1 n
 
 -- every cell is within its limit
-unfoldable pub withinForm : Form → Order → Bool
-withinForm f o = leb (o .r1) (f .r1) && (leb (o .r2) (f .r2) && leb (o .at) (f .at))
-
-abbrev pub legalAs : Named → Order → Named
-legalAs Named.Unknown o = Named.Unknown
-legalAs (Named.Known op) o = cond (withinForm (formOf op) o) (Named.Known op) Named.Unknown
+unfoldable pub withinLimits : Operation → Order → Bool
+withinLimits op o = leb (o .r1) (op .r1) && (leb (o .r2) (op .r2) && leb (o .at) (op .at))
 
 -- check 5: the operation, where the code is known and each cell is within its limit
-unfoldable pub legalOf : Order → Named
-legalOf o = legalAs (operationOf (o .code)) o
+unfoldable pub legalOf : Order → Answer Operation
+legalOf o = andThen (operationOf (o .code)) (λ op. provided (withinLimits op o) 5 (gives op))
+
+-- what the code's answer says: an order that doesn't pass is a 5
+abbrev pub saysLegality : Legality → Answer Operation
+saysLegality (Legality.Legal op) = gives op
+saysLegality Legality.Illegal = stops 5
+
+-- two halfwords for a short operand, four for a long one
+abbrev pub halfwords : Width → ℕ
+halfwords Width.Short = 2
+halfwords Width.Long = 4
+
+-- how many halfwords S has
+abbrev pub spanAs : Place → Width → ℕ
+spanAs Place.Nowhere w = 0
+spanAs Place.FloatRegister w = 0
+spanAs Place.GeneralRegister w = 0
+spanAs Place.Storage w = halfwords w
+
+abbrev pub spanOf : Operation → ℕ
+spanOf op = spanAs (op .place) (op .width)
+
+-- how many of them are stored to
+abbrev pub storedAs : Verb → Width → ℕ
+storedAs Verb.Load w = 0
+storedAs Verb.Complement w = 0
+storedAs Verb.Compare w = 0
+storedAs Verb.Fix w = 0
+storedAs Verb.Float w = 0
+storedAs Verb.Divide w = 0
+storedAs Verb.Store w = halfwords w
+storedAs Verb.LoadGeneral w = 0
+storedAs Verb.StoreGeneral w = 2
+storedAs Verb.SetMask w = 0
+storedAs Verb.Jump w = 0
+storedAs Verb.CountDown w = 0
+storedAs Verb.Halt w = 0
+
+abbrev pub storedOf : Operation → ℕ
+storedOf op = storedAs (op .verb) (op .width)
+
+abbrev pub isHalt : Verb → Bool
+isHalt Verb.Load = false
+isHalt Verb.Complement = false
+isHalt Verb.Compare = false
+isHalt Verb.Fix = false
+isHalt Verb.Float = false
+isHalt Verb.Divide = false
+isHalt Verb.Store = false
+isHalt Verb.LoadGeneral = false
+isHalt Verb.StoreGeneral = false
+isHalt Verb.SetMask = false
+isHalt Verb.Jump = false
+isHalt Verb.CountDown = false
+isHalt Verb.Halt = true

@@ -32,7 +32,7 @@ onward (stops k) x take rest = outcome x 0 k
 onward (gives e) x take rest = counted (rest (take e))
 
 abbrev pub verdictOf : List ℕ → List ℕ → Machine → Answer Effect
-verdictOf d p x = decided d p (x .state) (x .memory) (length (x .journal))
+verdictOf d p x = decided d p (x .state .registers) (x .state .used) (x .memory) (length (x .journal))
 
 unfoldable pub stepped : List ℕ → List ℕ → Machine → Outcome Machine
 stepped d p x = onward (verdictOf d p x) x (λ e. committed e x) (λ y. outcome y 0 0)

@@ -1,3 +1,4 @@
+// The address of the storage operand.
 use crate::order::Order;
 use crate::state::Registers;
 ghost use mathlib.Core.Path.{_≡_};

@@ -1,6 +1,9 @@
+// What a step or a back step overwrites.
 use crate::operand::word_at;
 use crate::state::Registers;
 use crate::verdict::Effect;
+use hexfloat::Width;
+use hexfloat::Words;
 ghost use mathlib.Core.Path.{_≡_};
 ghost use mathlib.Core.Bool.{true};
 ghost use Prim.Native.Nat.{_+_, _≤_};
@@ -15,6 +18,8 @@ ghost use Rattle.machine.specs.Change.{
   putWord,
   memoryAfter,
   registersAfter,
+  floatChange,
+  storageChange,
 };
 
 // What is overwritten, and with what: a float register, a float pair, a general register, two or
@@ -28,15 +33,35 @@ pub enum Change {
     Four(u32, u32, u32),
 }
 
-// Whether the registers and halfwords of a change are there.
+// Words into R r, or into pair r.
+pub fn float_change(width: Width, r: u32, a: Words) -> Change
+    ensures { λ c. ⌜ c ≡ floatChange width r a ⌝ }
+{
+    match width {
+        Width::Short => Change::Float(r, a.high),
+        Width::Long => Change::Pair(r, a.high, a.low),
+    }
+}
+
+// Words into S.
+pub fn storage_change(width: Width, at: u32, a: Words) -> Change
+    ensures { λ c. ⌜ c ≡ storageChange width at a ⌝ }
+{
+    match width {
+        Width::Short => Change::Two(at, a.high),
+        Width::Long => Change::Four(at, a.high, a.low),
+    }
+}
+
+// Whether the halfwords of a change are there.
 pub fn is_placed(ch: Change, memory: usize) -> bool
     ensures { λ r. ⌜ r ≡ placed ch memory ⌝ }
 {
     match ch {
         Change::Nothing => true,
-        Change::Float(r, w) => r <= 7,
-        Change::Pair(r, hi, lo) => r <= 7,
-        Change::General(r, w) => r <= 7,
+        Change::Float(r, w) => true,
+        Change::Pair(r, hi, lo) => true,
+        Change::General(r, w) => true,
         Change::Two(at, w) => at as usize + 2 <= memory,
         Change::Four(at, hi, lo) => at as usize + 4 <= memory,
     }
@@ -59,7 +84,7 @@ pub fn is_guarded(protect: &[u8], ch: Change) -> bool
 
 // The same places with their present contents.
 pub fn old(g: Registers, memory: &[u16], ch: Change) -> Change
-    requires { ⌜ placed ch (length (now memory)) ≡ true ⌝ }
+    requires { ⌜ (registered ch ≡ true) × (placed ch (length (now memory)) ≡ true) ⌝ }
     ensures { λ r. ⌜ r ≡ oldOf g (now (memory .entry)) ch ⌝ }
 {
     match ch {
@@ -78,43 +103,40 @@ pub fn old(g: Registers, memory: &[u16], ch: Change) -> Change
     }
 }
 
-fn float_after(ch: Change, f: [u32; 8]) -> [u32; 8]
+// The float registers after a change, in place.
+pub fn put_float(ch: Change, float: &mut [u32; 8])
     requires { ⌜ registered ch ≡ true ⌝ }
-    ensures { λ r. ⌜ r ≡ floatAfter ch f ⌝ }
+    ensures { λ _. ⌜ now (float .exit) ≡ floatAfter ch (now (float .entry)) ⌝ }
 {
-    let mut out = f;
     match ch {
-        Change::Nothing => out,
+        Change::Nothing => {}
         Change::Float(r, w) => {
-            out[r as usize] = w;
-            out
+            float[r as usize] = w;
         }
         Change::Pair(r, hi, lo) => {
-            out[r as usize] = hi;
-            out[(r as usize + 1) % 8] = lo;
-            out
+            float[r as usize] = hi;
+            float[(r as usize + 1) % 8] = lo;
         }
-        Change::General(r, w) => out,
-        Change::Two(at, w) => out,
-        Change::Four(at, hi, lo) => out,
+        Change::General(r, w) => {}
+        Change::Two(at, w) => {}
+        Change::Four(at, hi, lo) => {}
     }
 }
 
-fn general_after(ch: Change, n: [u32; 8]) -> [u32; 8]
+// The general registers after a change, in place.
+pub fn put_general(ch: Change, general: &mut [u32; 8])
     requires { ⌜ registered ch ≡ true ⌝ }
-    ensures { λ r. ⌜ r ≡ generalAfter ch n ⌝ }
+    ensures { λ _. ⌜ now (general .exit) ≡ generalAfter ch (now (general .entry)) ⌝ }
 {
-    let mut out = n;
     match ch {
-        Change::Nothing => out,
-        Change::Float(r, w) => out,
-        Change::Pair(r, hi, lo) => out,
+        Change::Nothing => {}
+        Change::Float(r, w) => {}
+        Change::Pair(r, hi, lo) => {}
         Change::General(r, w) => {
-            out[r as usize] = w;
-            out
+            general[r as usize] = w;
         }
-        Change::Two(at, w) => out,
-        Change::Four(at, hi, lo) => out,
+        Change::Two(at, w) => {}
+        Change::Four(at, hi, lo) => {}
     }
 }
 
@@ -123,15 +145,12 @@ pub fn registers_after(e: Effect, g: Registers) -> Registers
     ensures { λ r. ⌜ r ≡ registersAfter e g ⌝ }
 {
     let ch = e.change;
-    let f = g.float;
-    let n = g.general;
-    Registers {
-        float: float_after(ch, f),
-        general: general_after(ch, n),
-        code: e.code,
-        mask: e.mask,
-        pointer: e.pointer,
-    }
+    let status = e.status;
+    let mut after = g;
+    put_float(ch, &mut after.float);
+    put_general(ch, &mut after.general);
+    after.status = status;
+    after
 }
 
 fn put_word(memory: &mut [u16], at: usize, w: u32)

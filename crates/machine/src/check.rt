@@ -1,4 +1,6 @@
-use crate::state::State;
+// Checks 1, 2, 3, 6 and 7.
+use crate::state::Registers;
+use crate::state::Status;
 ghost use mathlib.Core.Path.{_≡_};
 ghost use mathlib.Core.Bool.{true};
 ghost use Prim.Native.Nat.{_+_, _≤_, _<_};
@@ -6,10 +8,10 @@ ghost use lib.ListN.{length};
 ghost use Rattle.machine.specs.Check.{
   deckSized,
   buffersSized,
-  codeFormed,
   stateFormed,
   present,
 };
+ghost use Rattle.machine.specs.Status.{conditionFormed, statusFormed};
 ghost use Rattle.machine.specs.Protect.{coverOf, isProtected, anyProtected};
 
 // Check 1.
@@ -42,30 +44,36 @@ pub fn buffers_sized(protect: usize, memory: usize, journal: usize) -> bool
     protect == cover(memory)
 }
 
-pub fn code_formed(code: u8) -> bool
-    ensures { λ r. ⌜ r ≡ codeFormed code ⌝ }
+pub fn condition_formed(condition: u8) -> bool
+    ensures { λ r. ⌜ r ≡ conditionFormed condition ⌝ }
 {
-    if code == 0 {
+    if condition == 0 {
         return true;
     }
-    if code == 1 {
+    if condition == 1 {
         return true;
     }
-    code == 3
+    condition == 3
+}
+
+fn status_formed(s: Status) -> bool
+    ensures { λ r. ⌜ r ≡ statusFormed s ⌝ }
+{
+    if !condition_formed(s.condition) {
+        return false;
+    }
+    s.mask <= 1
 }
 
 // Check 3.
-pub fn state_formed(s: State, journal: usize) -> bool
-    ensures { λ r. ⌜ r ≡ stateFormed s journal ⌝ }
+pub fn state_formed(g: Registers, used: u32, journal: usize) -> bool
+    ensures { λ r. ⌜ r ≡ stateFormed g used journal ⌝ }
 {
-    let g = s.registers;
-    if !code_formed(g.code) {
+    let status = g.status;
+    if !status_formed(status) {
         return false;
     }
-    if 1 < g.mask {
-        return false;
-    }
-    s.used as usize <= journal / 4
+    used as usize <= journal / 4
 }
 
 // Check 6 for `span` halfwords from `at`.

@@ -1,5 +1,9 @@
+// The journal's records.
 use crate::change::Change;
-use crate::check::code_formed;
+use crate::change::old;
+use crate::check::condition_formed;
+use crate::state::Registers;
+use crate::state::Status;
 use crate::stop::Stop;
 use crate::verdict::Effect;
 use crate::verdict::Verdict;
@@ -13,11 +17,13 @@ ghost use Rattle.machine.specs.Journal.{
   encodedAs,
   encoded,
   saysChange,
-  oneFrom,
+  inRegister,
   changeFrom,
   decoded,
 };
+ghost use Rattle.machine.specs.Machine.{beforeOf, Committable};
 ghost use Rattle.machine.specs.Says.{says};
+ghost use Rattle.machine.specs.Status.{packed, unpacked, Packable};
 
 // The four words of a record.
 pub struct Record {
@@ -62,6 +68,24 @@ fn words(head: u32, place: u32, left: u32, right: u32) -> Record
     }
 }
 
+// Word 0 but for the kind.
+fn pack(s: Status) -> u32
+    requires { ⌜ Packable s ⌝ }
+    ensures { λ r. ⌜ (r ≡ packed s) × (r < 524288) ⌝ }
+{
+    s.pointer as u32 + 65536 * (s.condition as u32) + 262144 * (s.mask as u32)
+}
+
+fn unpack(head: u32) -> Status
+    ensures { λ r. ⌜ r ≡ unpacked head ⌝ }
+{
+    Status {
+        condition: (head / 65536 % 4) as u8,
+        mask: (head / 262144 % 2) as u8,
+        pointer: (head % 65536) as u16,
+    }
+}
+
 // The record of a change, `base` being word 0 but for its kind.
 fn encode_change(base: u32, ch: Change) -> Record
     requires { ⌜ base < 524288 ⌝ }
@@ -77,13 +101,28 @@ fn encode_change(base: u32, ch: Change) -> Record
     }
 }
 
-pub fn encode(e: Effect) -> Record
-    requires { ⌜ (e .code < 4) × (e .mask < 2) ⌝ }
+fn encode(e: Effect) -> Record
+    requires { ⌜ Packable (e .status) ⌝ }
     ensures { λ r. ⌜ r ≡ encoded e ⌝ }
 {
     let ch = e.change;
-    let base = e.pointer as u32 + 65536 * (e.code as u32) + 262144 * (e.mask as u32);
-    encode_change(base, ch)
+    let status = e.status;
+    encode_change(pack(status), ch)
+}
+
+// The record of what an effect overwrites, at the used count.
+pub fn keep(g: Registers, used: u32, e: Effect, memory: &[u16], journal: &mut [u32])
+    requires { ⌜ Committable e g used (length (now memory)) (length (now journal)) ⌝ }
+    ensures { λ _. ⌜ now (journal .exit)
+        ≡ written (now (journal .entry)) used (encoded (beforeOf g (now (memory .entry)) e)) ⌝ }
+{
+    let change = e.change;
+    let status = g.status;
+    let before = Effect {
+        change: old(g, memory, change),
+        status,
+    };
+    write_record(journal, used, encode(before));
 }
 
 // The change of a record, or that its form is broken.
@@ -92,60 +131,69 @@ pub enum Decoded {
     Broken,
 }
 
-// Kinds 1, 3 and 4: word 3 is not in use.
-fn decode_one(kind: u32, place: u32, left: u32) -> Decoded
-    ensures { λ r. ⌜ saysChange r ≡ oneFrom kind place left ⌝ }
+// A change of register r, where the record's `unused` word is 0.
+fn in_register(r: u32, unused: u32, ch: Change) -> Decoded
+    ensures { λ d. ⌜ saysChange d ≡ inRegister r unused ch ⌝ }
 {
-    match kind {
-        1 => Decoded::Formed(Change::Float(place, left)),
-        3 => Decoded::Formed(Change::General(place, left)),
-        4 => Decoded::Formed(Change::Two(place, left)),
-        _ => Decoded::Broken,
-    }
-}
-
-fn decode_change(kind: u32, place: u32, left: u32, right: u32) -> Decoded
-    ensures { λ r. ⌜ saysChange r ≡ changeFrom kind place left right ⌝ }
-{
-    if kind == 2 {
-        return Decoded::Formed(Change::Pair(place, left, right));
-    }
-    if kind == 5 {
-        return Decoded::Formed(Change::Four(place, left, right));
-    }
-    if right != 0 {
+    if 7 < r {
         return Decoded::Broken;
     }
-    if kind != 0 {
-        return decode_one(kind, place, left);
+    if unused != 0 {
+        return Decoded::Broken;
     }
+    Decoded::Formed(ch)
+}
+
+// Kind 0: no word but the first is in use.
+fn unchanged(place: u32, left: u32, right: u32) -> Decoded
+    ensures { λ d. ⌜ saysChange d ≡ changeFrom 0 place left right ⌝ }
+{
     if place != 0 {
         return Decoded::Broken;
     }
     if left != 0 {
         return Decoded::Broken;
     }
+    if right != 0 {
+        return Decoded::Broken;
+    }
     Decoded::Formed(Change::Nothing)
+}
+
+// Kind 4: word 3 is not in use.
+fn two_halfwords(at: u32, word: u32, unused: u32) -> Decoded
+    ensures { λ d. ⌜ saysChange d ≡ changeFrom 4 at word unused ⌝ }
+{
+    if unused != 0 {
+        return Decoded::Broken;
+    }
+    Decoded::Formed(Change::Two(at, word))
+}
+
+fn decode_change(kind: u32, place: u32, left: u32, right: u32) -> Decoded
+    ensures { λ d. ⌜ saysChange d ≡ changeFrom kind place left right ⌝ }
+{
+    match kind {
+        0 => unchanged(place, left, right),
+        1 => in_register(place, right, Change::Float(place, left)),
+        2 => in_register(place, 0, Change::Pair(place, left, right)),
+        3 => in_register(place, right, Change::General(place, left)),
+        4 => two_halfwords(place, left, right),
+        5 => Decoded::Formed(Change::Four(place, left, right)),
+        _ => Decoded::Broken,
+    }
 }
 
 pub fn decode(q: Record) -> Verdict
     ensures { λ v. ⌜ says v ≡ decoded q ⌝ }
 {
-    let head = q.head;
-    let code = (head / 65536 % 4) as u8;
-    if !code_formed(code) {
+    let status = unpack(q.head);
+    if !condition_formed(status.condition) {
         return Verdict::Refused(Stop::RecordForm);
     }
-    let d = decode_change(head / 524288, q.place, q.left, q.right);
+    let d = decode_change(q.head / 524288, q.place, q.left, q.right);
     match d {
         Decoded::Broken => Verdict::Refused(Stop::RecordForm),
-        Decoded::Formed(change) => {
-            Verdict::Granted(Effect {
-                change,
-                code,
-                mask: (head / 262144 % 2) as u8,
-                pointer: (head % 65536) as u16,
-            })
-        }
+        Decoded::Formed(change) => Verdict::Granted(Effect { change, status }),
     }
 }

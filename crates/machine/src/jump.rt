@@ -1,44 +1,50 @@
+// JC and JN.
 use crate::change::Change;
 use crate::operand::general_at;
 use crate::state::Registers;
+use crate::state::Status;
 use crate::verdict::Effect;
 use crate::verdict::Verdict;
 ghost use mathlib.Core.Path.{_≡_};
-ghost use mathlib.Core.Bool.{cond};
 ghost use Prim.Native.Nat.{_+_, _<_, _≤_};
-ghost use Rattle.machine.specs.Jump.{jumps, jumped, oneLess, countedDown};
+ghost use Rattle.hexfloat.specs.Answer.{gives};
+ghost use Rattle.machine.specs.Jump.{jumps, jumpedTo, jumped, oneLess, countedDown};
 ghost use Rattle.machine.specs.Says.{says};
 
-// Whether the bit for the condition code is set in JC's mask.
-fn is_set(mask: u32, code: u8) -> bool
-    ensures { λ r. ⌜ r ≡ jumps mask code ⌝ }
+// Whether the bit for the condition code is set among JC's three.
+fn is_set(bits: u32, condition: u8) -> bool
+    ensures { λ r. ⌜ r ≡ jumps bits condition ⌝ }
 {
-    if code == 0 {
-        return mask / 4 % 2 == 1;
+    if condition == 0 {
+        return bits / 4 % 2 == 1;
     }
-    if code == 1 {
-        return mask / 2 % 2 == 1;
+    if condition == 1 {
+        return bits / 2 % 2 == 1;
     }
-    mask % 2 == 1
+    bits % 2 == 1
 }
 
 // To order `at`, or on by one.
-fn target(g: Registers, jump: bool, at: u16) -> u16
-    requires { ⌜ g .pointer + 1 < 65536 ⌝ }
-    ensures { λ r. ⌜ r ≡ cond jump at (g .pointer + 1) ⌝ }
+fn moved(s: Status, jump: bool, at: u16) -> Status
+    requires { ⌜ s .pointer + 1 < 65536 ⌝ }
+    ensures { λ r. ⌜ r ≡ jumpedTo s jump at ⌝ }
 {
-    if jump { at } else { g.pointer + 1 }
+    let pointer = if jump { at } else { s.pointer + 1 };
+    Status {
+        condition: s.condition,
+        mask: s.mask,
+        pointer,
+    }
 }
 
-pub fn jump(g: Registers, mask: u32, at: u16) -> Verdict
-    requires { ⌜ g .pointer + 1 < 65536 ⌝ }
-    ensures { λ v. ⌜ says v ≡ jumped g mask at ⌝ }
+pub fn jump(g: Registers, bits: u32, at: u16) -> Verdict
+    requires { ⌜ g .status .pointer + 1 < 65536 ⌝ }
+    ensures { λ v. ⌜ says v ≡ gives (jumped g bits at) ⌝ }
 {
+    let s = g.status;
     Verdict::Granted(Effect {
         change: Change::Nothing,
-        code: g.code,
-        mask: g.mask,
-        pointer: target(g, is_set(mask, g.code), at),
+        status: moved(s, is_set(bits, s.condition), at),
     })
 }
 
@@ -51,14 +57,13 @@ fn one_less(n: u32) -> u32
 
 // JN.
 pub fn count_down(g: Registers, r: u32, at: u16) -> Verdict
-    requires { ⌜ (g .pointer + 1 < 65536) × (r ≤ 7) ⌝ }
-    ensures { λ v. ⌜ says v ≡ countedDown g r at ⌝ }
+    requires { ⌜ (g .status .pointer + 1 < 65536) × (r ≤ 7) ⌝ }
+    ensures { λ v. ⌜ says v ≡ gives (countedDown g r at) ⌝ }
 {
+    let s = g.status;
     let w = one_less(general_at(g, r));
     Verdict::Granted(Effect {
         change: Change::General(r, w),
-        code: g.code,
-        mask: g.mask,
-        pointer: target(g, w != 0, at),
+        status: moved(s, w != 0, at),
     })
 }

@@ -1,13 +1,12 @@
 // The machine on the desk: registers, orders, checks, journal; step, run and back step.
 //
-// A step decides first and commits afterwards, so a stop leaves everything as it was. Every public
-// function takes the state by value and hands it back, has no `requires`, and has one equation with
-// a definition of specs/ as its whole contract.
+// A step decides first and writes afterwards, so a stop leaves everything as it was. What this file
+// exports takes the state by value and hands it back, has no `requires`, and has one equation with a
+// definition of specs/ as its whole contract; functions between the modules may have a `requires`.
 mod address;
 mod change;
 mod check;
 mod decide;
-mod divide;
 mod effect;
 mod journal;
 mod jump;
@@ -20,14 +19,17 @@ mod stop;
 mod undoing;
 mod verdict;
 
-pub use order::Named;
+pub use order::Legality;
 pub use order::Operation;
 pub use order::Order;
+pub use order::Place;
+pub use order::Verb;
 pub use order::legal;
 pub use running::Ran;
 pub use running::run;
 pub use state::Registers;
 pub use state::State;
+pub use state::Status;
 pub use state::fresh;
 pub use stepping::Stepped;
 pub use stepping::step;

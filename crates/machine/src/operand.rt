@@ -1,9 +1,18 @@
+// Operands: registers, pairs and storage.
+use crate::order::Order;
+use crate::order::Place;
 use crate::state::Registers;
-use hexfloat::Long;
+use hexfloat::Width;
+use hexfloat::Words;
 ghost use mathlib.Core.Path.{_≡_};
+ghost use mathlib.Core.Bool.{true};
 ghost use Prim.Native.Nat.{_+_, _≤_};
 ghost use lib.ListN.{length};
-ghost use Rattle.machine.specs.Operand.{floatAt, floatPair, generalAt, wordAt, longAt};
+ghost use Rattle.hexfloat.specs.Word.{shortWords};
+ghost use Rattle.machine.specs.Address.{addressOf};
+ghost use Rattle.machine.specs.Operand.{floatAt, floatPair, generalAt, wordAt, longAt, floatOperand, storageOperand, secondOperand};
+ghost use Rattle.machine.specs.Order.{halfwords, spanAs};
+ghost use Rattle.machine.specs.Check.{present};
 
 pub fn float_at(g: Registers, r: u32) -> u32
     requires { ⌜ r ≤ 7 ⌝ }
@@ -14,11 +23,11 @@ pub fn float_at(g: Registers, r: u32) -> u32
 }
 
 // Registers r and (r + 1) mod 8.
-pub fn float_pair(g: Registers, r: u32) -> Long
+pub fn float_pair(g: Registers, r: u32) -> Words
     requires { ⌜ r ≤ 7 ⌝ }
     ensures { λ w. ⌜ w ≡ floatPair g r ⌝ }
 {
-    Long {
+    Words {
         high: float_at(g, r),
         low: float_at(g, (r + 1) % 8),
     }
@@ -46,12 +55,60 @@ pub fn word_at(memory: &[u16], at: usize) -> u32
     wide(memory[at]) * 65536 + wide(memory[at + 1])
 }
 
-pub fn long_at(memory: &[u16], at: usize) -> Long
+pub fn long_at(memory: &[u16], at: usize) -> Words
     requires { ⌜ at + 4 ≤ length (now memory) ⌝ }
     ensures { λ w. ⌜ w ≡ longAt (now (memory .entry)) at ⌝ }
 {
-    Long {
+    Words {
         high: word_at(memory, at),
         low: word_at(memory, at + 2),
+    }
+}
+
+// A short operand: its word, and 0 where a long one has its second word.
+fn short(w: u32) -> Words
+    ensures { λ r. ⌜ r ≡ shortWords w ⌝ }
+{
+    Words { high: w, low: 0 }
+}
+
+pub fn float_operand(width: Width, g: Registers, r: u32) -> Words
+    requires { ⌜ r ≤ 7 ⌝ }
+    ensures { λ w. ⌜ w ≡ floatOperand width g r ⌝ }
+{
+    match width {
+        Width::Short => short(float_at(g, r)),
+        Width::Long => float_pair(g, r),
+    }
+}
+
+fn storage_operand(width: Width, memory: &[u16], at: usize) -> Words
+    requires { ⌜ at + halfwords width ≤ length (now memory) ⌝ }
+    ensures { λ w. ⌜ w ≡ storageOperand width (now (memory .entry)) at ⌝ }
+{
+    match width {
+        Width::Short => short(word_at(memory, at)),
+        Width::Long => long_at(memory, at),
+    }
+}
+
+// The one place where an order's second operand is fetched; S is at `at`.
+pub fn second_operand(
+    place: Place,
+    width: Width,
+    o: Order,
+    g: Registers,
+    at: u32,
+    memory: &[u16],
+) -> Words
+    requires { ⌜ (o .r2 ≤ 7) × (at ≡ addressOf o g) × (present (spanAs place width) at (length (now memory)) ≡ true) ⌝ }
+    ensures { λ w. ⌜ w ≡ secondOperand place width o g (now (memory .entry)) ⌝ }
+{
+    let r = o.r2 as u32;
+    match place {
+        Place::Nowhere => short(0),
+        Place::FloatRegister => float_operand(width, g, r),
+        Place::GeneralRegister => short(general_at(g, r)),
+        Place::Storage => storage_operand(width, memory, at as usize),
     }
 }

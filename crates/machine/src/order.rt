@@ -1,7 +1,24 @@
+// The orders: document 01's table, and check 5.
+use hexfloat::Width;
 ghost use mathlib.Core.Path.{_≡_};
 ghost use Prim.Native.Nat.{_+_, _*_, _≤_};
 ghost use lib.ListN.{length};
-ghost use Rattle.machine.specs.Order.{orderAt, operationOf, registerForm, placeForm, formOf, legalOf};
+ghost use Rattle.hexfloat.specs.Answer.{gives};
+ghost use Rattle.machine.specs.Order.{
+  orderAt,
+  row,
+  onFloat,
+  onGeneral,
+  onStorage,
+  onCells,
+  operationOf,
+  legalOf,
+  saysLegality,
+  spanOf,
+  storedOf,
+  halfwords,
+  isHalt,
+};
 
 // The four cells of an order.
 pub struct Order {
@@ -11,45 +28,44 @@ pub struct Order {
     pub at: u16,
 }
 
-pub enum Operation {
-    Ler,
-    Le,
-    Led,
-    Lecr,
-    Cer,
-    Ce,
-    Cedr,
-    Ced,
-    Cvfx,
-    Cvfl,
-    Der,
-    De,
-    Dedr,
-    Ded,
-    Ste,
-    Sted,
-    L,
-    St,
-    Um,
-    Jc,
-    Jn,
+// What an order does.
+pub enum Verb {
+    Load,
+    Complement,
+    Compare,
+    Fix,
+    Float,
+    Divide,
+    Store,
+    LoadGeneral,
+    StoreGeneral,
+    SetMask,
+    Jump,
+    CountDown,
     Halt,
 }
 
-pub enum Named {
-    Known(Operation),
-    Unknown,
+// Where its second operand is.
+pub enum Place {
+    Nowhere,
+    FloatRegister,
+    GeneralRegister,
+    Storage,
 }
 
-// An operation's limits: the largest r1, r2 and `at`; how many halfwords S has, and how many of
-// them are stored; whether it is HALT.
-pub struct Form {
+// A row of the table; r1, r2 and at are the largest that the cells may be.
+pub struct Operation {
+    pub verb: Verb,
+    pub width: Width,
+    pub place: Place,
     pub r1: u16,
     pub r2: u16,
     pub at: u16,
-    pub span: u32,
-    pub stored: u32,
-    pub halts: bool,
+}
+
+pub enum Legality {
+    Legal(Operation),
+    Illegal,
 }
 
 pub fn order_at(deck: &[u16], p: usize) -> Order
@@ -65,112 +81,158 @@ pub fn order_at(deck: &[u16], p: usize) -> Order
     }
 }
 
-pub fn look_up(code: u16) -> Named
-    ensures { λ r. ⌜ r ≡ operationOf code ⌝ }
+fn row(verb: Verb, width: Width, place: Place, r1: u16, r2: u16, at: u16) -> Legality
+    ensures { λ r. ⌜ saysLegality r ≡ gives (row verb width place r1 r2 at) ⌝ }
 {
-    match code {
-        1 => Named::Known(Operation::Ler),
-        2 => Named::Known(Operation::Le),
-        3 => Named::Known(Operation::Led),
-        4 => Named::Known(Operation::Lecr),
-        5 => Named::Known(Operation::Cer),
-        6 => Named::Known(Operation::Ce),
-        7 => Named::Known(Operation::Cedr),
-        8 => Named::Known(Operation::Ced),
-        9 => Named::Known(Operation::Cvfx),
-        10 => Named::Known(Operation::Cvfl),
-        11 => Named::Known(Operation::Der),
-        12 => Named::Known(Operation::De),
-        13 => Named::Known(Operation::Dedr),
-        14 => Named::Known(Operation::Ded),
-        15 => Named::Known(Operation::Ste),
-        16 => Named::Known(Operation::Sted),
-        17 => Named::Known(Operation::L),
-        18 => Named::Known(Operation::St),
-        19 => Named::Known(Operation::Um),
-        20 => Named::Known(Operation::Jc),
-        21 => Named::Known(Operation::Jn),
-        22 => Named::Known(Operation::Halt),
-        _ => Named::Unknown,
-    }
-}
-
-// An operation over registers alone.
-fn of_registers(r1: u16, r2: u16, halts: bool) -> Form
-    ensures { λ r. ⌜ r ≡ registerForm r1 r2 halts ⌝ }
-{
-    Form {
+    Legality::Legal(Operation {
+        verb,
+        width,
+        place,
         r1,
         r2,
-        at: 0,
-        span: 0,
-        stored: 0,
-        halts,
-    }
+        at,
+    })
 }
 
-// An operation with `at`: S has `span` halfwords, of which `stored` are stored.
-fn with_at(span: u32, stored: u32) -> Form
-    ensures { λ r. ⌜ r ≡ placeForm span stored ⌝ }
+fn on_float(verb: Verb, width: Width) -> Legality
+    ensures { λ r. ⌜ saysLegality r ≡ gives (onFloat verb width) ⌝ }
 {
-    Form {
-        r1: 7,
-        r2: 0,
-        at: 65535,
-        span,
-        stored,
-        halts: false,
-    }
+    row(verb, width, Place::FloatRegister, 7, 7, 0)
 }
 
-pub fn form_of(op: Operation) -> Form
-    ensures { λ r. ⌜ r ≡ formOf op ⌝ }
+fn on_general(verb: Verb, width: Width) -> Legality
+    ensures { λ r. ⌜ saysLegality r ≡ gives (onGeneral verb width) ⌝ }
 {
-    match op {
-        Operation::Ler => of_registers(7, 7, false),
-        Operation::Le => with_at(2, 0),
-        Operation::Led => with_at(4, 0),
-        Operation::Lecr => of_registers(7, 7, false),
-        Operation::Cer => of_registers(7, 7, false),
-        Operation::Ce => with_at(2, 0),
-        Operation::Cedr => of_registers(7, 7, false),
-        Operation::Ced => with_at(4, 0),
-        Operation::Cvfx => of_registers(7, 7, false),
-        Operation::Cvfl => of_registers(7, 7, false),
-        Operation::Der => of_registers(7, 7, false),
-        Operation::De => with_at(2, 0),
-        Operation::Dedr => of_registers(7, 7, false),
-        Operation::Ded => with_at(4, 0),
-        Operation::Ste => with_at(2, 2),
-        Operation::Sted => with_at(4, 4),
-        Operation::L => with_at(2, 0),
-        Operation::St => with_at(2, 2),
-        Operation::Um => of_registers(0, 1, false),
-        Operation::Jc => with_at(0, 0),
-        Operation::Jn => with_at(0, 0),
-        Operation::Halt => of_registers(0, 0, true),
+    row(verb, width, Place::GeneralRegister, 7, 7, 0)
+}
+
+fn on_storage(verb: Verb, width: Width) -> Legality
+    ensures { λ r. ⌜ saysLegality r ≡ gives (onStorage verb width) ⌝ }
+{
+    row(verb, width, Place::Storage, 7, 0, 65535)
+}
+
+fn on_cells(verb: Verb, r1: u16, r2: u16, at: u16) -> Legality
+    ensures { λ r. ⌜ saysLegality r ≡ gives (onCells verb r1 r2 at) ⌝ }
+{
+    row(verb, Width::Short, Place::Nowhere, r1, r2, at)
+}
+
+// The row of a code.
+fn look_up(code: u16) -> Legality
+    ensures { λ r. ⌜ saysLegality r ≡ operationOf code ⌝ }
+{
+    match code {
+        1 => on_float(Verb::Load, Width::Short), // LER
+        2 => on_storage(Verb::Load, Width::Short), // LE
+        3 => on_storage(Verb::Load, Width::Long), // LED
+        4 => on_float(Verb::Complement, Width::Short), // LECR
+        5 => on_float(Verb::Compare, Width::Short), // CER
+        6 => on_storage(Verb::Compare, Width::Short), // CE
+        7 => on_float(Verb::Compare, Width::Long), // CEDR
+        8 => on_storage(Verb::Compare, Width::Long), // CED
+        9 => on_float(Verb::Fix, Width::Short), // CVFX
+        10 => on_general(Verb::Float, Width::Short), // CVFL
+        11 => on_float(Verb::Divide, Width::Short), // DER
+        12 => on_storage(Verb::Divide, Width::Short), // DE
+        13 => on_float(Verb::Divide, Width::Long), // DEDR
+        14 => on_storage(Verb::Divide, Width::Long), // DED
+        15 => on_storage(Verb::Store, Width::Short), // STE
+        16 => on_storage(Verb::Store, Width::Long), // STED
+        17 => on_storage(Verb::LoadGeneral, Width::Short), // L
+        18 => on_storage(Verb::StoreGeneral, Width::Short), // ST
+        19 => on_cells(Verb::SetMask, 0, 1, 0), // UM
+        20 => on_cells(Verb::Jump, 7, 0, 65535), // JC
+        21 => on_cells(Verb::CountDown, 7, 0, 65535), // JN
+        22 => on_cells(Verb::Halt, 0, 0, 0), // HALT
+        _ => Legality::Illegal,
     }
 }
 
 // Check 5: the operation, where the code is known and every cell is within its limit.
-pub fn legal(o: Order) -> Named
-    ensures { λ r. ⌜ r ≡ legalOf o ⌝ }
+pub fn legal(o: Order) -> Legality
+    ensures { λ r. ⌜ saysLegality r ≡ legalOf o ⌝ }
 {
-    let n = look_up(o.code);
-    match n {
-        Named::Unknown => Named::Unknown,
-        Named::Known(op) => {
-            let f = form_of(op);
-            if f.r1 < o.r1 {
-                return Named::Unknown;
+    let found = look_up(o.code);
+    match found {
+        Legality::Illegal => Legality::Illegal,
+        Legality::Legal(op) => {
+            if op.r1 < o.r1 {
+                return Legality::Illegal;
             }
-            if f.r2 < o.r2 {
-                return Named::Unknown;
+            if op.r2 < o.r2 {
+                return Legality::Illegal;
             }
-            if f.at < o.at {
-                return Named::Unknown;
+            if op.at < o.at {
+                return Legality::Illegal;
             }
-            Named::Known(op)
+            Legality::Legal(op)
         }
+    }
+}
+
+fn operand_halfwords(width: Width) -> u32
+    ensures { λ r. ⌜ r ≡ halfwords width ⌝ }
+{
+    match width {
+        Width::Short => 2,
+        Width::Long => 4,
+    }
+}
+
+// How many halfwords S has.
+pub fn span(op: Operation) -> u32
+    ensures { λ r. ⌜ r ≡ spanOf op ⌝ }
+{
+    let place = op.place;
+    let width = op.width;
+    match place {
+        Place::Nowhere => 0,
+        Place::FloatRegister => 0,
+        Place::GeneralRegister => 0,
+        Place::Storage => operand_halfwords(width),
+    }
+}
+
+// How many of them are stored to.
+pub fn stored(op: Operation) -> u32
+    ensures { λ r. ⌜ r ≡ storedOf op ⌝ }
+{
+    let verb = op.verb;
+    let width = op.width;
+    match verb {
+        Verb::Load => 0,
+        Verb::Complement => 0,
+        Verb::Compare => 0,
+        Verb::Fix => 0,
+        Verb::Float => 0,
+        Verb::Divide => 0,
+        Verb::Store => operand_halfwords(width),
+        Verb::LoadGeneral => 0,
+        Verb::StoreGeneral => 2,
+        Verb::SetMask => 0,
+        Verb::Jump => 0,
+        Verb::CountDown => 0,
+        Verb::Halt => 0,
+    }
+}
+
+pub fn halts(verb: Verb) -> bool
+    ensures { λ r. ⌜ r ≡ isHalt verb ⌝ }
+{
+    match verb {
+        Verb::Load => false,
+        Verb::Complement => false,
+        Verb::Compare => false,
+        Verb::Fix => false,
+        Verb::Float => false,
+        Verb::Divide => false,
+        Verb::Store => false,
+        Verb::LoadGeneral => false,
+        Verb::StoreGeneral => false,
+        Verb::SetMask => false,
+        Verb::Jump => false,
+        Verb::CountDown => false,
+        Verb::Halt => true,
     }
 }

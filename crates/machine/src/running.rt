@@ -1,8 +1,14 @@
+// Runs: the one place that has the code of a step.
+use crate::change::put_float;
+use crate::change::put_general;
+use crate::change::store;
+use crate::decide::decide;
 use crate::decide::entry;
+use crate::journal::keep;
 use crate::state::State;
-use crate::stepping::step;
 use crate::stop::Stop;
 use crate::stop::number;
+use crate::verdict::Verdict;
 ghost use mathlib.Core.Path.{_≡_};
 ghost use Rattle.machine.specs.Stops.{numberOf};
 ghost use Rattle.machine.specs.Machine.{machine};
@@ -27,28 +33,56 @@ pub fn run(
     ensures { λ r. ⌜ outcome (machine (r .state) (now (memory .exit)) (now (journal .exit))) (r .count) (numberOf (r .stop))
         ≡ ran (now (deck .entry)) (now (protect .entry)) limit (machine s (now (memory .entry)) (now (journal .entry))) ⌝ }
 {
-    let mut state = s;
-    let mut count: u32 = 0;
-    let first = entry(s, deck.len(), protect.len(), memory.len(), journal.len());
+    let first = entry(
+        s.registers,
+        s.used,
+        deck.len(),
+        protect.len(),
+        memory.len(),
+        journal.len(),
+    );
     if number(first) != 0 {
         return Ran {
-            state,
-            count,
+            state: s,
+            count: 0,
             stop: first,
         };
     }
+    let mut registers = s.registers;
+    let mut used = s.used;
+    let mut count: u32 = 0;
     while count < limit {
-        let t = step(state, deck, memory, protect, journal);
-        let after = t.state;
-        let stop = t.stop;
-        state = after;
-        if number(stop) != 0 {
-            return Ran { state, count, stop };
+        let v = decide(
+            registers,
+            used,
+            deck,
+            memory,
+            protect,
+            journal.len(),
+        );
+        match v {
+            Verdict::Refused(stop) => {
+                return Ran {
+                    state: State { registers, used },
+                    count,
+                    stop,
+                };
+            }
+            Verdict::Granted(e) => {
+                let change = e.change;
+                let status = e.status;
+                keep(registers, used, e, memory, journal);
+                store(change, memory);
+                put_float(change, &mut registers.float);
+                put_general(change, &mut registers.general);
+                registers.status = status;
+                used += 1;
+            }
         }
         count += 1;
     }
     Ran {
-        state,
+        state: State { registers, used },
         count,
         stop: Stop::Taken,
     }

@@ -1,14 +1,21 @@
+// The state, and its fresh form.
 ghost use mathlib.Core.Path.{_≡_};
 ghost use Rattle.machine.specs.Fresh.{freshState};
 
-// What one seat has: the registers that its orders see.
+// What word 0 of a record saves: condition code, underflow mask, and the order that comes next.
+#[repr(C)]
+pub struct Status {
+    pub condition: u8,
+    pub mask: u8,
+    pub pointer: u16,
+}
+
+// The registers that orders see.
 #[repr(C)]
 pub struct Registers {
     pub float: [u32; 8],
     pub general: [u32; 8],
-    pub code: u8,
-    pub mask: u8,
-    pub pointer: u16,
+    pub status: Status,
 }
 
 // The registers, and how many records of the journal are in use.
@@ -21,12 +28,15 @@ pub struct State {
 pub fn fresh() -> State
     ensures { λ r. ⌜ r ≡ freshState ⌝ }
 {
+    let status = Status {
+        condition: 0,
+        mask: 0,
+        pointer: 0,
+    };
     let registers = Registers {
         float: [0; 8],
         general: [0; 8],
-        code: 0,
-        mask: 0,
-        pointer: 0,
+        status,
     };
     State { registers, used: 0 }
 }

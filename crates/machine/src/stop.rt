@@ -1,3 +1,4 @@
+// How a call ends.
 ghost use mathlib.Core.Path.{_≡_};
 ghost use Rattle.machine.specs.Stops.{numberOf};
 

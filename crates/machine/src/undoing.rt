@@ -1,3 +1,4 @@
+// A step taken back.
 use crate::change::is_guarded;
 use crate::change::is_placed;
 use crate::change::registers_after;
@@ -19,8 +20,7 @@ ghost use Rattle.machine.specs.Machine.{machine};
 ghost use Rattle.machine.specs.Step.{outcome};
 ghost use Rattle.machine.specs.Back.{allowed, returning, backed};
 
-// Check 15 of an effect that a record gives: its registers and halfwords are there, and none is
-// protected.
+// Check 15 of an effect that a record gives: its halfwords are there, and none is protected.
 fn allow(e: Effect, protect: &[u8], memory: usize) -> Verdict
     requires { ⌜ memory ≡ length (now protect) ⌝ }
     ensures { λ v. ⌜ says v ≡ allowed e (now (protect .entry)) memory ⌝ }
@@ -39,7 +39,13 @@ fn allow(e: Effect, protect: &[u8], memory: usize) -> Verdict
 fn recall(s: State, memory: usize, protect: &[u8], journal: &[u32]) -> Verdict
     ensures { λ v. ⌜ says v ≡ returning (now (protect .entry)) s memory (now (journal .entry)) ⌝ }
 {
-    let k = held(s, protect.len(), memory, journal.len());
+    let k = held(
+        s.registers,
+        s.used,
+        protect.len(),
+        memory,
+        journal.len(),
+    );
     if number(k) != 0 {
         return Verdict::Refused(k);
     }

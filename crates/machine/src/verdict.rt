@@ -1,12 +1,12 @@
+// What a step or a back step is found to do, or why it is refused.
 use crate::change::Change;
+use crate::state::Status;
 use crate::stop::Stop;
 
-// What a step or a back step does: the change, and the code, mask and pointer that stand after it.
+// The change, and the status that stands after it.
 pub struct Effect {
     pub change: Change,
-    pub code: u8,
-    pub mask: u8,
-    pub pointer: u16,
+    pub status: Status,
 }
 
 pub enum Verdict {

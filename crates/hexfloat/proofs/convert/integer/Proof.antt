@@ -25,7 +25,7 @@ returns c =
     let k : ℕ = p .characteristic - 66 in
     let fits : p .fraction * 16 ^ k < 2 ^ 64 =
     lt-of-lt-of-le (mul-lt-mul-of-pos-right (c .before .pre .0 .fraction) (pos k)) (le-trans (le-of-eq (sym (pow-add 16 6 k))) (mono {j = 16} (omega arith))) in
-    moved-left (p .fraction) k fits ∙ sym (converted.moved-left p (c .if1 .taken))
+    moved-left (p .fraction) k fits ∙ sym (converted.fixed-left p (c .if1 .taken))
 
 sub-result : tie.Need-sub-result
 sub-result c = search needs
@@ -42,10 +42,10 @@ shr-result c = search needs
 returns-2 : tie.Need-returns-2
 returns-2 c =
     let p = c .before .before .args .p in
-    ap (λ (z : ℕ). p .fraction / z) (four-bits (66 - p .characteristic)) ∙ sym (converted.moved-right p (omega arith))
+    ap (λ (z : ℕ). p .fraction / z) (four-bits (66 - p .characteristic)) ∙ sym (converted.fixed-right p (omega arith))
 
 returns-3 : tie.Need-returns-3
-returns-3 c = sym (converted.moved-out (c .before .before .args .p) (omega arith) (c .before .before .pre .0 .fraction))
+returns-3 c = sym (converted.fixed-out (c .before .before .args .p) (omega arith) (c .before .before .pre .0 .fraction))
 
 pub integer-spec : {M : Type 1} → statement M
 integer-spec =

@@ -42,14 +42,14 @@ signed-word-requires : tie.Need-signed-word-requires
 signed-word-requires c κs =
     omega (arith, ap (λ (p : Parts). p .sign) (c .before .before .before .before .before .before .before .short-parts .ensures), c .before .before .before .before .before .before .before .before .fits .w)
 
-signed-code-requires : tie.Need-signed-code-requires
-signed-code-requires c κs = search needs
+signed-condition-requires : tie.Need-signed-condition-requires
+signed-condition-requires c κs = search needs
 
 returns-4 : tie.Need-returns-4
 returns-4 c =
     let e = c .before .before .before .before .before .before .before .before .before .short-parts .ensures in
     let m = c .before .before .before .before .integer .ensures in
-    rw (c .signed-code .ensures, c .before .signed-word .ensures, m, e) (sym (fixed _ (rw (m, e) at (c .before .before .if3 .left))))
+    rw (c .signed-condition .ensures, c .before .signed-word .ensures, m, e) (sym (fixed _ (rw (m, e) at (c .before .before .if3 .left))))
 
 pub to-fixed-spec : {M : Type 1} → statement M
 to-fixed-spec =
@@ -63,5 +63,5 @@ to-fixed-spec =
     add-if3
     returns-3
     signed-word-requires
-    signed-code-requires
+    signed-condition-requires
     returns-4)

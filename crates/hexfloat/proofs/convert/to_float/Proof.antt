@@ -11,12 +11,12 @@ float-parts-requires c κs = search needs
 short-word-requires : tie.Need-short-word-requires
 short-word-requires c κs = rw (c .float-parts .ensures) (float-fits _ (c .before .fits .w .fits))
 
-code-requires : tie.Need-code-requires
-code-requires c κs = search needs
+condition-of-requires : tie.Need-condition-of-requires
+condition-of-requires c κs = search needs
 
 returns : tie.Need-returns
 unfolding toFloat
-returns c = rw (c .code .ensures, c .before .short-word .ensures, c .before .before .float-parts .ensures)
+returns c = rw (c .condition-of .ensures, c .before .short-word .ensures, c .before .before .float-parts .ensures)
 
 pub to-float-spec : {M : Type 1} → statement M
-to-float-spec = tie.close (tie.spec float-parts-requires short-word-requires code-requires returns)
+to-float-spec = tie.close (tie.spec float-parts-requires short-word-requires condition-of-requires returns)

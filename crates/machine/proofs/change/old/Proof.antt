@@ -1,8 +1,8 @@
--- `machine::change::old` meets its contract: each arm computes its case of `oldOf`; what is placed is there to be read.
+-- `machine::change::old` meets its contract: each arm computes its case; its places are there.
 -- Assumes nothing.
 use borrow.Author.Needs.{needs}
 use Rattle.machine.specs.Change.{oldOf}
-use Rattle.machine.proofs.Placed.{placed-float, placed-pair, placed-general, placed-two, placed-four}
+use Rattle.machine.proofs.Placed.{registered-float, registered-pair, registered-general, placed-two, placed-four}
 use Rattle.machine.proofs.change.old.Statement.{statement}
 use Rattle.machine.proofs.change.old.Tie as tie
 
@@ -13,19 +13,19 @@ enum-known-ch : tie.Need-enum-known-ch
 enum-known-ch c = search needs
 
 float-at-requires : tie.Need-float-at-requires
-float-at-requires c κs = placed-float _ (c .before .ch .given .1) (c .before .before .before .before .pre)
+float-at-requires c κs = registered-float (c .before .ch .given .1) (c .before .before .before .before .pre .0)
 
 enum-known-ch-2 : tie.Need-enum-known-ch-2
 enum-known-ch-2 c = search needs
 
 float-pair-requires : tie.Need-float-pair-requires
-float-pair-requires c κs = placed-pair _ (c .before .ch2 .given .1) (c .before .before .before .before .pre)
+float-pair-requires c κs = registered-pair (c .before .ch2 .given .1) (c .before .before .before .before .pre .0)
 
 enum-known-ch-3 : tie.Need-enum-known-ch-3
 enum-known-ch-3 c = search needs
 
 general-at-requires : tie.Need-general-at-requires
-general-at-requires c κs = placed-general _ (c .before .ch3 .given .1) (c .before .before .before .before .pre)
+general-at-requires c κs = registered-general (c .before .ch3 .given .1) (c .before .before .before .before .pre .0)
 
 enum-known-ch-4 : tie.Need-enum-known-ch-4
 enum-known-ch-4 c = search needs
@@ -34,7 +34,7 @@ cast-word-at : tie.Need-cast-word-at
 cast-word-at c = search needs
 
 word-at-requires : tie.Need-word-at-requires
-word-at-requires c κs = placed-two (c .before .ch4 .given .1) (c .before .before .before .before .pre)
+word-at-requires c κs = placed-two (c .before .ch4 .given .1) (c .before .before .before .before .pre .1)
 
 enum-known-ch-5 : tie.Need-enum-known-ch-5
 enum-known-ch-5 c = search needs
@@ -43,7 +43,7 @@ cast-long-at : tie.Need-cast-long-at
 cast-long-at c = search needs
 
 long-at-requires : tie.Need-long-at-requires
-long-at-requires c κs = placed-four (c .before .ch5 .given .1) (c .before .before .before .before .pre)
+long-at-requires c κs = placed-four (c .before .ch5 .given .1) (c .before .before .before .before .pre .1)
 
 returns : tie.Need-returns
 unfolding oldOf

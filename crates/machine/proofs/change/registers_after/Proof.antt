@@ -1,17 +1,17 @@
--- `machine::change::registers_after` meets its contract: by the two callees.
+-- `machine::change::registers_after` meets its contract: both register sets in turn.
 -- Assumes nothing.
 use borrow.Author.Needs.{needs}
 use Rattle.machine.proofs.change.registers_after.Statement.{statement}
 use Rattle.machine.proofs.change.registers_after.Tie as tie
 
-float-after-requires : tie.Need-float-after-requires
-float-after-requires c κs = search needs
+put-float-requires : tie.Need-put-float-requires
+put-float-requires c κs = search needs
 
-general-after-requires : tie.Need-general-after-requires
-general-after-requires c κs = search needs
+put-general-requires : tie.Need-put-general-requires
+put-general-requires c κs = search needs
 
 returns : tie.Need-returns
-returns c = rw (c .before .float-after .ensures, c .general-after .ensures)
+returns c = rw (c .put-general .ensures, c .before .before .put-float .ensures)
 
 pub registers-after-spec : {M : Type 1} → statement M
-registers-after-spec = tie.close (tie.spec float-after-requires general-after-requires returns)
+registers-after-spec = tie.close (tie.spec put-float-requires put-general-requires returns)

@@ -1,13 +1,14 @@
--- `machine::decide::decide` meets its contract: each `return` rewrites with the checks that led there.
+-- `machine::decide::decide` meets its contract: the checks in turn.
 -- Assumes nothing.
-use mathlib.Core.Path.{sym, _∙_}
+use borrow.Author.Tests.{eq-eqb, ne-eqb, lt-ltb, le-ltb}
 use native.Mathlib.Omega.{arith}
+use mathlib.Core.Path.{sym, ap, _∙_}
 use borrow.Author.Needs.{needs}
-use borrow.Author.Tests.{lt-ltb, le-ltb, eq-eqb, ne-eqb}
 use Rattle.machine.specs.Decide.{decided}
+use Rattle.machine.specs.Order.{saysLegality}
 use Rattle.machine.specs.Stops.{numberOf}
 use Rattle.machine.proofs.Checks.{held, entered}
-use Rattle.machine.proofs.Decided.{legal-within, form-fits}
+use Rattle.machine.proofs.Rows.{legal-passed}
 use Rattle.machine.proofs.decide.decide.Statement.{statement}
 use Rattle.machine.proofs.decide.decide.Tie as tie
 
@@ -19,22 +20,14 @@ number-requires c κs = search needs
 
 returns : tie.Need-returns
 unfolding decided
-returns c =
-    let checks = c .before .before .entry in
-    rw (← checks .ensures, ne-eqb (numberOf (checks .result)) 0 (λ z. c .if1 .taken (c .before .number .ensures ∙ z)))
+returns c = let checks = c .before .before .entry in rw (← checks .ensures, ne-eqb (numberOf (checks .result)) 0 (λ z. c .if1 .taken (c .before .number .ensures ∙ z)))
 
 cast-p : tie.Need-cast-p
 cast-p c = search needs
 
 returns-2 : tie.Need-returns-2
 unfolding decided
-returns-2 c =
-    let checks = c .before .before .before .before .before .entry in
-    let zero =
-    sym (c .before .before .before .before .number .ensures)
-    ∙ c .before .before .before .if1 .left in
-    let passes = eq-eqb (numberOf (checks .result)) 0 zero in
-    rw (← checks .ensures, passes, le-ltb _ _ (c .if2 .taken))
+returns-2 c = let checks = c .before .before .before .before .entry in let zero = sym (c .before .before .before .number .ensures) ∙ c .before .before .if1 .left in let passes = eq-eqb (numberOf (checks .result)) 0 zero in rw (← checks .ensures, passes, le-ltb _ _ (c .if2 .taken))
 
 order-at-requires : tie.Need-order-at-requires
 order-at-requires c κs = search needs
@@ -45,58 +38,19 @@ legal-requires c κs = search needs
 enum-told : tie.Need-enum-told
 enum-told c = search needs
 
-enum-known-n : tie.Need-enum-known-n
-enum-known-n c = search needs
+enum-known-checked : tie.Need-enum-known-checked
+enum-known-checked c = search needs
 
 judge-requires : tie.Need-judge-requires
-judge-requires c κs =
-    let zero = sym (c .before .before .before .before .before .before .before .before .before .number .ensures) ∙ c .before .before .before .before .before .before .before .before .if1 .left in
-    let e = entered _ _ _ _ _ (sym (c .before .before .before .before .before .before .before .before .before .before .entry .ensures) ∙ zero) in
-    let w = legal-within _ _ (sym (c .before .before .before .legal .ensures) ∙ c .before .n .given .1) in
-    let f = form-fits (c .before .n .given .0 .0) in
-    record {
-      first = omega (arith, w .r1, f .r1);
-      second = omega (arith, w .r2, f .r2);
-      cover = held _ _ _ _ (e .1) .cover;
-      onward = omega (arith, e .0 .size, c .before .before .before .before .before .if2 .left);
-    }
+judge-requires c κs = let zero = sym (c .before .before .before .before .before .before .before .before .number .ensures) ∙ c .before .before .before .before .before .before .before .if1 .left in let e = entered _ _ _ _ _ _ (sym (c .before .before .before .before .before .before .before .before .before .entry .ensures) ∙ zero) in let w = legal-passed _ _ (sym (c .before .before .before .legal .ensures) ∙ ap saysLegality (c .before .checked .given .1)) in record { first = w .first; second = w .second; span = w .span; stores = w .stored; cover = held _ _ _ _ _ (e .1) .cover; onward = omega (arith, e .0 .size, c .before .before .before .before .before .if2 .left) }
 
 returns-3 : tie.Need-returns-3
 unfolding decided
-returns-3 c =
-    let checks = c .before .before .before .before .before .before .before .before .before .entry in
-    let zero =
-    sym (c .before .before .before .before .before .before .before .before .number .ensures)
-    ∙ c .before .before .before .before .before .before .before .if1 .left in
-    let passes = eq-eqb (numberOf (checks .result)) 0 zero in
-    let inside = lt-ltb _ _ (c .before .before .before .before .if2 .left) in
-    rw (
-      ← checks .ensures,
-      passes,
-      inside,
-      ← c .before .before .before .order-at .ensures,
-      ← c .before .before .legal .ensures,
-      c .enum-told .given .1,
-    )
+returns-3 c = let checks = c .before .before .before .before .before .before .before .before .entry in let zero = sym (c .before .before .before .before .before .before .before .number .ensures) ∙ c .before .before .before .before .before .before .if1 .left in let passes = eq-eqb (numberOf (checks .result)) 0 zero in rw (← checks .ensures, passes, lt-ltb _ _ (c .before .before .before .before .if2 .left), ← c .before .before .before .order-at .ensures, ← c .before .before .legal .ensures, c .enum-told .given .1)
 
 returns-4 : tie.Need-returns-4
 unfolding decided
-returns-4 c =
-    let checks = c .before .before .before .before .before .before .before .before .before .before .before .entry in
-    let zero =
-    sym (c .before .before .before .before .before .before .before .before .before .before .number .ensures)
-    ∙ c .before .before .before .before .before .before .before .before .before .if1 .left in
-    let passes = eq-eqb (numberOf (checks .result)) 0 zero in
-    let inside = lt-ltb _ _ (c .before .before .before .before .before .before .if2 .left) in
-    rw (
-      ← checks .ensures,
-      passes,
-      inside,
-      ← c .before .before .before .before .before .order-at .ensures,
-      ← c .before .before .before .before .legal .ensures,
-      c .before .before .n .given .1,
-    )
-    (c .judge .ensures)
+returns-4 c = let checks = c .before .before .before .before .before .before .before .before .before .before .entry in let zero = sym (c .before .before .before .before .before .before .before .before .before .number .ensures) ∙ c .before .before .before .before .before .before .before .before .if1 .left in let passes = eq-eqb (numberOf (checks .result)) 0 zero in rw (← checks .ensures, passes, lt-ltb _ _ (c .before .before .before .before .before .before .if2 .left), ← c .before .before .before .before .before .order-at .ensures, ← c .before .before .before .before .legal .ensures, c .before .before .checked .given .1) (c .judge .ensures)
 
 pub decide-spec : {M : Type 1} → statement M
 decide-spec =
@@ -110,7 +64,7 @@ decide-spec =
     order-at-requires
     legal-requires
     enum-told
-    enum-known-n
+    enum-known-checked
     judge-requires
     returns-3
     returns-4)

@@ -1,7 +1,7 @@
--- `machine::decide::entry` meets its contract: each `return` rewrites with the checks that led there.
+-- `machine::decide::entry` meets its contract: check 1, then the others.
 -- Assumes nothing.
-use borrow.Author.Needs.{needs}
 use borrow.Author.Tests.{not-true, not-false}
+use borrow.Author.Needs.{needs}
 use Rattle.machine.specs.Decide.{entryStop}
 use Rattle.machine.proofs.decide.entry.Statement.{statement}
 use Rattle.machine.proofs.decide.entry.Tie as tie
@@ -18,11 +18,7 @@ held-requires c κs = search needs
 
 returns-2 : tie.Need-returns-2
 unfolding entryStop
-returns-2 c =
-    rw (
-      ← c .before .before .deck-sized .ensures,
-      not-false (c .before .before .deck-sized .result) (c .before .if1 .left),
-    ) (c .held .ensures)
+returns-2 c = rw (← c .before .before .deck-sized .ensures, not-false (c .before .before .deck-sized .result) (c .before .if1 .left)) (c .held .ensures)
 
 pub entry-spec : {M : Type 1} → statement M
 entry-spec = tie.close (tie.spec deck-sized-requires returns held-requires returns-2)

@@ -1,7 +1,7 @@
--- `machine::decide::held` meets its contract: each `return` rewrites with the checks that led there.
+-- `machine::decide::held` meets its contract: checks 2 and 3 in turn.
 -- Assumes nothing.
-use borrow.Author.Needs.{needs}
 use borrow.Author.Tests.{not-true, not-false}
+use borrow.Author.Needs.{needs}
 use Rattle.machine.specs.Decide.{heldStop}
 use Rattle.machine.proofs.decide.held.Statement.{statement}
 use Rattle.machine.proofs.decide.held.Tie as tie
@@ -18,23 +18,11 @@ state-formed-requires c κs = search needs
 
 returns-2 : tie.Need-returns-2
 unfolding heldStop
-returns-2 c =
-    rw (
-      ← c .before .before .before .buffers-sized .ensures,
-      not-false (c .before .before .before .buffers-sized .result) (c .before .before .if1 .left),
-      ← c .before .state-formed .ensures,
-      not-true (c .before .state-formed .result) (c .if2 .taken),
-    )
+returns-2 c = rw (← c .before .before .before .buffers-sized .ensures, not-false (c .before .before .before .buffers-sized .result) (c .before .before .if1 .left), ← c .before .state-formed .ensures, not-true (c .before .state-formed .result) (c .if2 .taken))
 
 returns-3 : tie.Need-returns-3
 unfolding heldStop
-returns-3 c =
-    rw (
-      ← c .before .before .before .buffers-sized .ensures,
-      not-false (c .before .before .before .buffers-sized .result) (c .before .before .if1 .left),
-      ← c .before .state-formed .ensures,
-      not-false (c .before .state-formed .result) (c .if2 .left),
-    )
+returns-3 c = rw (← c .before .before .before .buffers-sized .ensures, not-false (c .before .before .before .buffers-sized .result) (c .before .before .if1 .left), ← c .before .state-formed .ensures, not-false (c .before .state-formed .result) (c .if2 .left))
 
 pub held-spec : {M : Type 1} → statement M
 held-spec =

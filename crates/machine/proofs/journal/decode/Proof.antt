@@ -1,20 +1,20 @@
--- `machine::journal::decode` meets its contract: the tests and the callees, one by one.
+-- `machine::journal::decode` meets its contract: the condition code, then the kind.
 -- Assumes nothing.
-use borrow.Author.Needs.{needs}
 use borrow.Author.Tests.{not-true, not-false}
+use borrow.Author.Needs.{needs}
 use Rattle.machine.specs.Journal.{decoded}
 use Rattle.machine.proofs.journal.decode.Statement.{statement}
 use Rattle.machine.proofs.journal.decode.Tie as tie
 
-cast-code : tie.Need-cast-code
-cast-code c = search needs
+unpack-requires : tie.Need-unpack-requires
+unpack-requires c κs = search needs
 
-code-formed-requires : tie.Need-code-formed-requires
-code-formed-requires c κs = search needs
+condition-formed-requires : tie.Need-condition-formed-requires
+condition-formed-requires c κs = search needs
 
 returns : tie.Need-returns
 unfolding decoded
-returns c = rw (← c .before .code-formed .ensures, not-true (c .before .code-formed .result) (c .if1 .taken))
+returns c = rw (← c .before .before .unpack .ensures, ← c .before .condition-formed .ensures, not-true (c .before .condition-formed .result) (c .if1 .taken))
 
 decode-change-requires : tie.Need-decode-change-requires
 decode-change-requires c κs = search needs
@@ -25,43 +25,23 @@ enum-told c = search needs
 enum-known-d : tie.Need-enum-known-d
 enum-known-d c = search needs
 
-cast-t15 : tie.Need-cast-t15
-cast-t15 c = search needs
-
-cast-t17 : tie.Need-cast-t17
-cast-t17 c = search needs
-
 returns-2 : tie.Need-returns-2
 unfolding decoded
-returns-2 c =
-    rw (
-      ← c .before .before .before .before .code-formed .ensures,
-      not-false (c .before .before .before .before .code-formed .result) (c .before .before .before .if1 .left),
-      ← c .before .before .decode-change .ensures,
-      c .enum-told .given .1,
-    )
+returns-2 c = rw (← c .before .before .before .before .before .before .unpack .ensures, ← c .before .before .before .before .before .condition-formed .ensures, not-false (c .before .before .before .before .before .condition-formed .result) (c .before .before .before .before .if1 .left), ← c .before .before .decode-change .ensures, c .enum-told .given .1)
 
 returns-3 : tie.Need-returns-3
 unfolding decoded
-returns-3 c =
-    rw (
-      ← c .before .before .before .before .before .code-formed .ensures,
-      not-false (c .before .before .before .before .before .code-formed .result) (c .before .before .before .before .if1 .left),
-      ← c .before .before .before .decode-change .ensures,
-      c .before .d .given .1,
-    )
+returns-3 c = rw (← c .before .before .before .before .before .before .before .unpack .ensures, ← c .before .before .before .before .before .before .condition-formed .ensures, not-false (c .before .before .before .before .before .before .condition-formed .result) (c .before .before .before .before .before .if1 .left), ← c .before .before .before .decode-change .ensures, c .before .d .given .1)
 
 pub decode-spec : {M : Type 1} → statement M
 decode-spec =
     tie.close
     (tie.spec
-    cast-code
-    code-formed-requires
+    unpack-requires
+    condition-formed-requires
     returns
     decode-change-requires
     enum-told
     enum-known-d
-    cast-t15
-    cast-t17
     returns-2
     returns-3)

@@ -11,13 +11,12 @@ general-at-requires c κs = search needs
 one-less-requires : tie.Need-one-less-requires
 one-less-requires c κs = search needs
 
-target-requires : tie.Need-target-requires
-target-requires c κs = search needs
+moved-requires : tie.Need-moved-requires
+moved-requires c κs = search needs
 
 returns : tie.Need-returns
 unfolding countedDown
-returns c = rw (c .target .ensures, c .before .one-less .ensures, c .before .before .general-at .ensures)
+returns c = rw (c .moved .ensures, c .before .one-less .ensures, c .before .before .general-at .ensures)
 
 pub count-down-spec : {M : Type 1} → statement M
-count-down-spec =
-    tie.close (tie.spec general-at-requires one-less-requires target-requires returns)
+count-down-spec = tie.close (tie.spec general-at-requires one-less-requires moved-requires returns)

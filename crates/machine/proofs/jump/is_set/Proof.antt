@@ -1,4 +1,4 @@
--- `machine::jump::is_set` meets its contract: the tests, one by one.
+-- `machine::jump::is_set` meets its contract: the codes one by one.
 -- Assumes nothing.
 use borrow.Author.Tests.{ne-eqb}
 use Rattle.machine.specs.Jump.{jumps}

@@ -1,4 +1,4 @@
--- `machine::jump::jump` meets its contract: by the two callees.
+-- `machine::jump::jump` meets its contract: by the callees.
 -- Assumes nothing.
 use borrow.Author.Needs.{needs}
 use Rattle.machine.specs.Jump.{jumped}
@@ -8,12 +8,12 @@ use Rattle.machine.proofs.jump.jump.Tie as tie
 is-set-requires : tie.Need-is-set-requires
 is-set-requires c κs = search needs
 
-target-requires : tie.Need-target-requires
-target-requires c κs = search needs
+moved-requires : tie.Need-moved-requires
+moved-requires c κs = search needs
 
 returns : tie.Need-returns
 unfolding jumped
-returns c = rw (c .target .ensures, c .before .is-set .ensures)
+returns c = rw (c .moved .ensures, c .before .is-set .ensures)
 
 pub jump-spec : {M : Type 1} → statement M
-jump-spec = tie.close (tie.spec is-set-requires target-requires returns)
+jump-spec = tie.close (tie.spec is-set-requires moved-requires returns)

@@ -1,8 +1,8 @@
 -- `machine::order::legal` meets its contract: the limits, one by one.
 -- Assumes nothing.
-use borrow.Author.Needs.{needs}
 use borrow.Author.Tests.{le-leb, lt-leb}
-use Rattle.machine.specs.Order.{legalOf, withinForm}
+use borrow.Author.Needs.{needs}
+use Rattle.machine.specs.Order.{legalOf, withinLimits}
 use Rattle.machine.proofs.order.legal.Statement.{statement}
 use Rattle.machine.proofs.order.legal.Tie as tie
 
@@ -12,60 +12,28 @@ look-up-requires c κs = search needs
 enum-told : tie.Need-enum-told
 enum-told c = search needs
 
-enum-known-n : tie.Need-enum-known-n
-enum-known-n c = search needs
-
-form-of-requires : tie.Need-form-of-requires
-form-of-requires c κs = search needs
+enum-known-found : tie.Need-enum-known-found
+enum-known-found c = search needs
 
 returns : tie.Need-returns
-unfolding legalOf withinForm
-returns c =
-    rw (
-      ← c .before .before .before .before .before .before .before .look-up .ensures,
-      c .before .before .before .before .before .n .given .1,
-      ← c .before .before .before .form-of .ensures,
-      lt-leb _ _ (c .if1 .taken),
-    )
+unfolding legalOf withinLimits
+returns c = rw (← c .before .before .before .before .before .before .look-up .ensures, c .before .before .before .before .found .given .1, lt-leb _ _ (c .if1 .taken))
 
 returns-2 : tie.Need-returns-2
-unfolding legalOf withinForm
-returns-2 c =
-    rw (
-      ← c .before .before .before .before .before .before .before .before .before .before .look-up .ensures,
-      c .before .before .before .before .before .before .before .before .n .given .1,
-      ← c .before .before .before .before .before .before .form-of .ensures,
-      le-leb _ _ (c .before .before .before .if1 .left),
-      lt-leb _ _ (c .if2 .taken),
-    )
+unfolding legalOf withinLimits
+returns-2 c = rw (← c .before .before .before .before .before .before .before .before .before .look-up .ensures, c .before .before .before .before .before .before .before .found .given .1, le-leb _ _ (c .before .before .before .if1 .left), lt-leb _ _ (c .if2 .taken))
 
 returns-3 : tie.Need-returns-3
-unfolding legalOf withinForm
-returns-3 c =
-    rw (
-      ← c .before .before .before .before .before .before .before .before .before .before .before .before .before .look-up .ensures,
-      c .before .before .before .before .before .before .before .before .before .before .before .n .given .1,
-      ← c .before .before .before .before .before .before .before .before .before .form-of .ensures,
-      le-leb _ _ (c .before .before .before .before .before .before .if1 .left),
-      le-leb _ _ (c .before .before .before .if2 .left),
-      lt-leb _ _ (c .if3 .taken),
-    )
+unfolding legalOf withinLimits
+returns-3 c = rw (← c .before .before .before .before .before .before .before .before .before .before .before .before .look-up .ensures, c .before .before .before .before .before .before .before .before .before .before .found .given .1, le-leb _ _ (c .before .before .before .before .before .before .if1 .left), le-leb _ _ (c .before .before .before .if2 .left), lt-leb _ _ (c .if3 .taken))
 
 returns-4 : tie.Need-returns-4
-unfolding legalOf withinForm
+unfolding legalOf withinLimits
 returns-4 c = rw (← c .before .before .look-up .ensures, c .enum-told .given .1)
 
 returns-5 : tie.Need-returns-5
-unfolding legalOf withinForm
-returns-5 c =
-    rw (
-      ← c .before .before .before .before .before .before .before .before .before .before .before .before .before .look-up .ensures,
-      c .before .before .before .before .before .before .before .before .before .before .before .n .given .1,
-      ← c .before .before .before .before .before .before .before .before .before .form-of .ensures,
-      le-leb _ _ (c .before .before .before .before .before .before .if1 .left),
-      le-leb _ _ (c .before .before .before .if2 .left),
-      le-leb _ _ (c .if3 .left),
-    )
+unfolding legalOf withinLimits
+returns-5 c = rw (← c .before .before .before .before .before .before .before .before .before .before .before .before .look-up .ensures, c .before .before .before .before .before .before .before .before .before .before .found .given .1, le-leb _ _ (c .before .before .before .before .before .before .if1 .left), le-leb _ _ (c .before .before .before .if2 .left), le-leb _ _ (c .if3 .left))
 
 pub legal-spec : {M : Type 1} → statement M
 legal-spec =
@@ -73,8 +41,7 @@ legal-spec =
     (tie.spec
     look-up-requires
     enum-told
-    enum-known-n
-    form-of-requires
+    enum-known-found
     returns
     returns-2
     returns-3

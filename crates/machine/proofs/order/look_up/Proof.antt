@@ -1,130 +1,195 @@
 -- `machine::order::look_up` meets its contract: the codes, one by one.
 -- Assumes nothing.
 use borrow.Author.Tests.{ne-eqb}
-use Rattle.machine.specs.Order.{operationOf}
+use borrow.Author.Needs.{needs}
+use Rattle.machine.specs.Order.{operationOf, rowAmong}
 use Rattle.machine.proofs.order.look_up.Statement.{statement}
 use Rattle.machine.proofs.order.look_up.Tie as tie
 
+on-float-requires : tie.Need-on-float-requires
+on-float-requires c κs = search needs
+
+on-storage-requires : tie.Need-on-storage-requires
+on-storage-requires c κs = search needs
+
+on-storage-requires-2 : tie.Need-on-storage-requires-2
+on-storage-requires-2 c κs = search needs
+
+on-float-requires-2 : tie.Need-on-float-requires-2
+on-float-requires-2 c κs = search needs
+
+on-float-requires-3 : tie.Need-on-float-requires-3
+on-float-requires-3 c κs = search needs
+
+on-storage-requires-3 : tie.Need-on-storage-requires-3
+on-storage-requires-3 c κs = search needs
+
+on-float-requires-4 : tie.Need-on-float-requires-4
+on-float-requires-4 c κs = search needs
+
+on-storage-requires-4 : tie.Need-on-storage-requires-4
+on-storage-requires-4 c κs = search needs
+
+on-float-requires-5 : tie.Need-on-float-requires-5
+on-float-requires-5 c κs = search needs
+
+on-general-requires : tie.Need-on-general-requires
+on-general-requires c κs = search needs
+
+on-float-requires-6 : tie.Need-on-float-requires-6
+on-float-requires-6 c κs = search needs
+
+on-storage-requires-5 : tie.Need-on-storage-requires-5
+on-storage-requires-5 c κs = search needs
+
+on-float-requires-7 : tie.Need-on-float-requires-7
+on-float-requires-7 c κs = search needs
+
+on-storage-requires-6 : tie.Need-on-storage-requires-6
+on-storage-requires-6 c κs = search needs
+
+on-storage-requires-7 : tie.Need-on-storage-requires-7
+on-storage-requires-7 c κs = search needs
+
+on-storage-requires-8 : tie.Need-on-storage-requires-8
+on-storage-requires-8 c κs = search needs
+
+on-storage-requires-9 : tie.Need-on-storage-requires-9
+on-storage-requires-9 c κs = search needs
+
+on-storage-requires-10 : tie.Need-on-storage-requires-10
+on-storage-requires-10 c κs = search needs
+
+on-cells-requires : tie.Need-on-cells-requires
+on-cells-requires c κs = search needs
+
+on-cells-requires-2 : tie.Need-on-cells-requires-2
+on-cells-requires-2 c κs = search needs
+
+on-cells-requires-3 : tie.Need-on-cells-requires-3
+on-cells-requires-3 c κs = search needs
+
+on-cells-requires-4 : tie.Need-on-cells-requires-4
+on-cells-requires-4 c κs = search needs
+
 returns : tie.Need-returns
-unfolding operationOf
-returns c = rw (c .match .keys1)
+unfolding operationOf rowAmong
+returns c = rw (c .before .match .keys1) (c .on-float .ensures)
 
 returns-2 : tie.Need-returns-2
-unfolding operationOf
-returns-2 c = rw (c .match .keys2)
+unfolding operationOf rowAmong
+returns-2 c = rw (c .before .match .keys2) (c .on-storage .ensures)
 
 returns-3 : tie.Need-returns-3
-unfolding operationOf
-returns-3 c = rw (c .match .keys3)
+unfolding operationOf rowAmong
+returns-3 c = rw (c .before .match .keys3) (c .on-storage2 .ensures)
 
 returns-4 : tie.Need-returns-4
-unfolding operationOf
-returns-4 c = rw (c .match .keys4)
+unfolding operationOf rowAmong
+returns-4 c = rw (c .before .match .keys4) (c .on-float2 .ensures)
 
 returns-5 : tie.Need-returns-5
-unfolding operationOf
-returns-5 c = rw (c .match .keys5)
+unfolding operationOf rowAmong
+returns-5 c = rw (c .before .match .keys5) (c .on-float3 .ensures)
 
 returns-6 : tie.Need-returns-6
-unfolding operationOf
-returns-6 c = rw (c .match .keys6)
+unfolding operationOf rowAmong
+returns-6 c = rw (c .before .match .keys6) (c .on-storage3 .ensures)
 
 returns-7 : tie.Need-returns-7
-unfolding operationOf
-returns-7 c = rw (c .match .keys7)
+unfolding operationOf rowAmong
+returns-7 c = rw (c .before .match .keys7) (c .on-float4 .ensures)
 
 returns-8 : tie.Need-returns-8
-unfolding operationOf
-returns-8 c = rw (c .match .keys8)
+unfolding operationOf rowAmong
+returns-8 c = rw (c .before .match .keys8) (c .on-storage4 .ensures)
 
 returns-9 : tie.Need-returns-9
-unfolding operationOf
-returns-9 c = rw (c .match .keys9)
+unfolding operationOf rowAmong
+returns-9 c = rw (c .before .match .keys9) (c .on-float5 .ensures)
 
 returns-10 : tie.Need-returns-10
-unfolding operationOf
-returns-10 c = rw (c .match .keys10)
+unfolding operationOf rowAmong
+returns-10 c = rw (c .before .match .keys10) (c .on-general .ensures)
 
 returns-11 : tie.Need-returns-11
-unfolding operationOf
-returns-11 c = rw (c .match .keys11)
+unfolding operationOf rowAmong
+returns-11 c = rw (c .before .match .keys11) (c .on-float6 .ensures)
 
 returns-12 : tie.Need-returns-12
-unfolding operationOf
-returns-12 c = rw (c .match .keys12)
+unfolding operationOf rowAmong
+returns-12 c = rw (c .before .match .keys12) (c .on-storage5 .ensures)
 
 returns-13 : tie.Need-returns-13
-unfolding operationOf
-returns-13 c = rw (c .match .keys13)
+unfolding operationOf rowAmong
+returns-13 c = rw (c .before .match .keys13) (c .on-float7 .ensures)
 
 returns-14 : tie.Need-returns-14
-unfolding operationOf
-returns-14 c = rw (c .match .keys14)
+unfolding operationOf rowAmong
+returns-14 c = rw (c .before .match .keys14) (c .on-storage6 .ensures)
 
 returns-15 : tie.Need-returns-15
-unfolding operationOf
-returns-15 c = rw (c .match .keys15)
+unfolding operationOf rowAmong
+returns-15 c = rw (c .before .match .keys15) (c .on-storage7 .ensures)
 
 returns-16 : tie.Need-returns-16
-unfolding operationOf
-returns-16 c = rw (c .match .keys16)
+unfolding operationOf rowAmong
+returns-16 c = rw (c .before .match .keys16) (c .on-storage8 .ensures)
 
 returns-17 : tie.Need-returns-17
-unfolding operationOf
-returns-17 c = rw (c .match .keys17)
+unfolding operationOf rowAmong
+returns-17 c = rw (c .before .match .keys17) (c .on-storage9 .ensures)
 
 returns-18 : tie.Need-returns-18
-unfolding operationOf
-returns-18 c = rw (c .match .keys18)
+unfolding operationOf rowAmong
+returns-18 c = rw (c .before .match .keys18) (c .on-storage10 .ensures)
 
 returns-19 : tie.Need-returns-19
-unfolding operationOf
-returns-19 c = rw (c .match .keys19)
+unfolding operationOf rowAmong
+returns-19 c = rw (c .before .match .keys19) (c .on-cells .ensures)
 
 returns-20 : tie.Need-returns-20
-unfolding operationOf
-returns-20 c = rw (c .match .keys20)
+unfolding operationOf rowAmong
+returns-20 c = rw (c .before .match .keys20) (c .on-cells2 .ensures)
 
 returns-21 : tie.Need-returns-21
-unfolding operationOf
-returns-21 c = rw (c .match .keys21)
+unfolding operationOf rowAmong
+returns-21 c = rw (c .before .match .keys21) (c .on-cells3 .ensures)
 
 returns-22 : tie.Need-returns-22
-unfolding operationOf
-returns-22 c = rw (c .match .keys22)
+unfolding operationOf rowAmong
+returns-22 c = rw (c .before .match .keys22) (c .on-cells4 .ensures)
 
 returns-23 : tie.Need-returns-23
-unfolding operationOf
-returns-23 c =
-    rw (
-      ne-eqb _ 1 (c .match .rest .0 .0 .0 .0 .0 .0 .0 .0 .0 .0 .0 .0 .0 .0 .0 .0 .0 .0 .0 .0 .0 .1),
-      ne-eqb _ 2 (c .match .rest .0 .0 .0 .0 .0 .0 .0 .0 .0 .0 .0 .0 .0 .0 .0 .0 .0 .0 .0 .0 .1),
-      ne-eqb _ 3 (c .match .rest .0 .0 .0 .0 .0 .0 .0 .0 .0 .0 .0 .0 .0 .0 .0 .0 .0 .0 .0 .1),
-      ne-eqb _ 4 (c .match .rest .0 .0 .0 .0 .0 .0 .0 .0 .0 .0 .0 .0 .0 .0 .0 .0 .0 .0 .1),
-      ne-eqb _ 5 (c .match .rest .0 .0 .0 .0 .0 .0 .0 .0 .0 .0 .0 .0 .0 .0 .0 .0 .0 .1),
-      ne-eqb _ 6 (c .match .rest .0 .0 .0 .0 .0 .0 .0 .0 .0 .0 .0 .0 .0 .0 .0 .0 .1),
-      ne-eqb _ 7 (c .match .rest .0 .0 .0 .0 .0 .0 .0 .0 .0 .0 .0 .0 .0 .0 .0 .1),
-      ne-eqb _ 8 (c .match .rest .0 .0 .0 .0 .0 .0 .0 .0 .0 .0 .0 .0 .0 .0 .1),
-      ne-eqb _ 9 (c .match .rest .0 .0 .0 .0 .0 .0 .0 .0 .0 .0 .0 .0 .0 .1),
-      ne-eqb _ 10 (c .match .rest .0 .0 .0 .0 .0 .0 .0 .0 .0 .0 .0 .0 .1),
-      ne-eqb _ 11 (c .match .rest .0 .0 .0 .0 .0 .0 .0 .0 .0 .0 .0 .1),
-      ne-eqb _ 12 (c .match .rest .0 .0 .0 .0 .0 .0 .0 .0 .0 .0 .1),
-      ne-eqb _ 13 (c .match .rest .0 .0 .0 .0 .0 .0 .0 .0 .0 .1),
-      ne-eqb _ 14 (c .match .rest .0 .0 .0 .0 .0 .0 .0 .0 .1),
-      ne-eqb _ 15 (c .match .rest .0 .0 .0 .0 .0 .0 .0 .1),
-      ne-eqb _ 16 (c .match .rest .0 .0 .0 .0 .0 .0 .1),
-      ne-eqb _ 17 (c .match .rest .0 .0 .0 .0 .0 .1),
-      ne-eqb _ 18 (c .match .rest .0 .0 .0 .0 .1),
-      ne-eqb _ 19 (c .match .rest .0 .0 .0 .1),
-      ne-eqb _ 20 (c .match .rest .0 .0 .1),
-      ne-eqb _ 21 (c .match .rest .0 .1),
-      ne-eqb _ 22 (c .match .rest .1),
-    )
+unfolding operationOf rowAmong
+returns-23 c = let r = c .match .rest in rw (ne-eqb _ 1 (r .0 .0 .0 .0 .0 .0 .0 .0 .0 .0 .0 .0 .0 .0 .0 .0 .0 .0 .0 .0 .0 .1), ne-eqb _ 2 (r .0 .0 .0 .0 .0 .0 .0 .0 .0 .0 .0 .0 .0 .0 .0 .0 .0 .0 .0 .0 .1), ne-eqb _ 3 (r .0 .0 .0 .0 .0 .0 .0 .0 .0 .0 .0 .0 .0 .0 .0 .0 .0 .0 .0 .1), ne-eqb _ 4 (r .0 .0 .0 .0 .0 .0 .0 .0 .0 .0 .0 .0 .0 .0 .0 .0 .0 .0 .1), ne-eqb _ 5 (r .0 .0 .0 .0 .0 .0 .0 .0 .0 .0 .0 .0 .0 .0 .0 .0 .0 .1), ne-eqb _ 6 (r .0 .0 .0 .0 .0 .0 .0 .0 .0 .0 .0 .0 .0 .0 .0 .0 .1), ne-eqb _ 7 (r .0 .0 .0 .0 .0 .0 .0 .0 .0 .0 .0 .0 .0 .0 .0 .1), ne-eqb _ 8 (r .0 .0 .0 .0 .0 .0 .0 .0 .0 .0 .0 .0 .0 .0 .1), ne-eqb _ 9 (r .0 .0 .0 .0 .0 .0 .0 .0 .0 .0 .0 .0 .0 .1), ne-eqb _ 10 (r .0 .0 .0 .0 .0 .0 .0 .0 .0 .0 .0 .0 .1), ne-eqb _ 11 (r .0 .0 .0 .0 .0 .0 .0 .0 .0 .0 .0 .1), ne-eqb _ 12 (r .0 .0 .0 .0 .0 .0 .0 .0 .0 .0 .1), ne-eqb _ 13 (r .0 .0 .0 .0 .0 .0 .0 .0 .0 .1), ne-eqb _ 14 (r .0 .0 .0 .0 .0 .0 .0 .0 .1), ne-eqb _ 15 (r .0 .0 .0 .0 .0 .0 .0 .1), ne-eqb _ 16 (r .0 .0 .0 .0 .0 .0 .1), ne-eqb _ 17 (r .0 .0 .0 .0 .0 .1), ne-eqb _ 18 (r .0 .0 .0 .0 .1), ne-eqb _ 19 (r .0 .0 .0 .1), ne-eqb _ 20 (r .0 .0 .1), ne-eqb _ 21 (r .0 .1), ne-eqb _ 22 (r .1))
 
 pub look-up-spec : {M : Type 1} → statement M
 look-up-spec =
     tie.close
     (tie.spec
+    on-float-requires
+    on-storage-requires
+    on-storage-requires-2
+    on-float-requires-2
+    on-float-requires-3
+    on-storage-requires-3
+    on-float-requires-4
+    on-storage-requires-4
+    on-float-requires-5
+    on-general-requires
+    on-float-requires-6
+    on-storage-requires-5
+    on-float-requires-7
+    on-storage-requires-6
+    on-storage-requires-7
+    on-storage-requires-8
+    on-storage-requires-9
+    on-storage-requires-10
+    on-cells-requires
+    on-cells-requires-2
+    on-cells-requires-3
+    on-cells-requires-4
     returns
     returns-2
     returns-3

@@ -1,0 +1,97 @@
+-- What holds of each row of the table of orders: a test that is computed over the rows, and what it says of the row of a code.
+use Prim.Native.Nat.{ℕ, _+_, _≤_}
+use mathlib.Core.Path.{_≡_, refl, subst}
+use mathlib.Core.Bool.{Bool, true, false, cond, _&&_}
+use mathlib.Core.List.{List, [], _∷_}
+use lib.Dec.{eqb, leb}
+use native.Mathlib.Omega.{arith}
+use borrow.Author.Tests.{leb-true}
+use Rattle.hexfloat.specs.Answer.{gives}
+use Rattle.machine.specs.declared.order.Operation.{Operation}
+use Rattle.machine.specs.declared.order.Order.{Order}
+use Rattle.machine.specs.declared.order.Verb.{Verb}
+use Rattle.machine.specs.Order.{rows, rowAmong, operationOf, withinLimits, legalOf, spanOf, storedOf}
+use Rattle.machine.specs.Says.{provided}
+use Rattle.machine.proofs.Answers.{gives-inj, never, provided-gives, then-gives}
+use Rattle.machine.proofs.Checks.{both}
+
+-- UM alone writes r2 into the mask
+unfoldable pub maskFits : Verb → ℕ → Bool
+maskFits Verb.Load r = true
+maskFits Verb.Complement r = true
+maskFits Verb.Compare r = true
+maskFits Verb.Fix r = true
+maskFits Verb.Float r = true
+maskFits Verb.Divide r = true
+maskFits Verb.Store r = true
+maskFits Verb.LoadGeneral r = true
+maskFits Verb.StoreGeneral r = true
+maskFits Verb.SetMask r = leb r 1
+maskFits Verb.Jump r = true
+maskFits Verb.CountDown r = true
+maskFits Verb.Halt r = true
+
+-- no register above 7; what is stored is a part of S, which has at most four halfwords; a mask is 0 or 1
+unfoldable fitting : Operation → Bool
+fitting op = leb (op .r1) 7 && (leb (op .r2) 7 && (leb (storedOf op) (spanOf op) && (leb (spanOf op) 4 && maskFits (op .verb) (op .r2))))
+
+-- of some rows, whatever code the first of them has
+unfoldable allFit : List Operation → Bool
+allFit [] = true
+allFit (op ∷ ops) = fitting op && allFit ops
+
+among-fits : (ops : List Operation) (k n : ℕ) (op : Operation) → allFit ops ≡ true → rowAmong ops k n ≡ gives op → fitting op ≡ true
+unfolding rowAmong allFit
+among-fits [] k n op f h = never h
+among-fits (x ∷ xs) k n op f h =
+    let fits = both (fitting x) (allFit xs) f in
+    cases (eqb n k) (fits .0) (among-fits xs (k + 1) n op (fits .1)) h
+  where
+    cases :
+        (b : Bool) → fitting x ≡ true → (rowAmong xs (k + 1) n ≡ gives op → fitting op ≡ true) →
+        cond b (gives x) (rowAmong xs (k + 1) n) ≡ gives op → fitting op ≡ true
+    cases true first rest e = subst (λ (y : Operation). fitting y ≡ true) (gives-inj e) first
+    cases false first rest e = rest e
+
+rows-fit : allFit rows ≡ true
+unfolding allFit fitting maskFits
+rows-fit = refl
+
+-- of an operation that check 5 lets pass, with its order
+pub record Passed (op : Operation) (o : Order) : Type 0 where
+  pub r1 : o .r1 ≤ op .r1
+  pub r2 : o .r2 ≤ op .r2
+  pub first : o .r1 ≤ 7
+  pub second : o .r2 ≤ 7
+  pub stored : storedOf op ≤ spanOf op
+  pub span : spanOf op ≤ 4
+  pub mask : maskFits (op .verb) (op .r2) ≡ true
+
+passed : (op : Operation) (o : Order) → fitting op ≡ true → withinLimits op o ≡ true → Passed op o
+unfolding withinLimits fitting
+passed op o f w =
+    let a = both (leb (op .r1) 7) (leb (op .r2) 7 && (leb (storedOf op) (spanOf op) && (leb (spanOf op) 4 && maskFits (op .verb) (op .r2)))) f in
+    let b = both (leb (op .r2) 7) (leb (storedOf op) (spanOf op) && (leb (spanOf op) 4 && maskFits (op .verb) (op .r2))) (a .1) in
+    let c = both (leb (storedOf op) (spanOf op)) (leb (spanOf op) 4 && maskFits (op .verb) (op .r2)) (b .1) in
+    let d = both (leb (spanOf op) 4) (maskFits (op .verb) (op .r2)) (c .1) in
+    let x = both (leb (o .r1) (op .r1)) (leb (o .r2) (op .r2) && leb (o .at) (op .at)) w in
+    let y = both (leb (o .r2) (op .r2)) (leb (o .at) (op .at)) (x .1) in
+    let r1 : o .r1 ≤ op .r1 = leb-true (o .r1) (op .r1) (x .0) in
+    let r2 : o .r2 ≤ op .r2 = leb-true (o .r2) (op .r2) (y .0) in
+    record {
+      r1 = r1;
+      r2 = r2;
+      first = omega (arith, leb-true (op .r1) 7 (a .0));
+      second = omega (arith, leb-true (op .r2) 7 (b .0));
+      stored = leb-true (storedOf op) (spanOf op) (c .0);
+      span = leb-true (spanOf op) 4 (d .0);
+      mask = d .1;
+    }
+
+pub legal-passed : (o : Order) (op : Operation) → legalOf o ≡ gives op → Passed op o
+unfolding legalOf operationOf
+legal-passed o op h =
+    let t = then-gives (operationOf (o .code)) (λ x. provided (withinLimits x o) 5 (gives x)) h in
+    let q = provided-gives (withinLimits (t .0) o) 5 (gives (t .0)) (t .2) in
+    let same : t .0 ≡ op = gives-inj (q .1) in
+    subst (λ (x : Operation). Passed x o) same (passed (t .0) o (among-fits rows 1 (o .code) (t .0) rows-fit (t .1)) (q .0))
