@@ -3,9 +3,9 @@ use Prim.Native.Nat.{ℕ, zero, suc}
 use mathlib.Core.Path.{_≡_, refl, ap, _∙_}
 use mathlib.Core.List.{List, [], _∷_, _++_}
 use lib.ListN.{replicate}
 use Rattle.machine.specs.Step.{Outcome}
-use Rattle.machine.specs.Trail.{Call, step, back, Trail, Reply, replyOf, traced, standing, replies, Covered, AllCovered}
-use Rattle.machine.specs.Theorems.{reply}
+use Rattle.conditions.specs.Trail.{Call, step, back, Trail, Reply, replyOf, traced, standing, replies, Covered, AllCovered}
+use Rattle.conditions.specs.Theorems.{answer}
 
 -- k back steps, k steps, and their answers where all are taken
 abbrev pub backs : ℕ → List Call
@@ -15,10 +15,10 @@ abbrev pub forwards : ℕ → List Call
 forwards k = replicate k step
 
 abbrev pub backsTaken : ℕ → List Reply
-backsTaken k = replicate k (reply 0 0)
+backsTaken k = replicate k (answer 0 0)
 
 abbrev pub stepsTaken : ℕ → List Reply
-stepsTaken k = replicate k (reply 1 0)
+stepsTaken k = replicate k (answer 1 0)
 
 -- a list of calls and then another
 pub standing-append : {W : Type 0} (f : Call → W → Outcome W) (cs ds : List Call) (x : W) → standing f (cs ++ ds) x ≡ standing f ds (standing f cs x)

@@ -8,13 +8,14 @@ use lib.ListN.{length, getD}
 use native.Mathlib.Omega.{arith}
 use borrow.Author.Tests.{eqb-true, eqb-false}
 use Rattle.hexfloat.specs.Answer.{Answer, gives, stops}
 use Rattle.machine.specs.declared.verdict.Effect.{Effect}
 use Rattle.machine.specs.Run.{repeated}
 use Rattle.machine.specs.Step.{Outcome, outcome, onward}
-use Rattle.machine.specs.Trail.{Call, step, run, back, Entry, Trail, trail, extended, judgedLast, enteredLast, dropped, traced, Reply, replyOf, standing, replies}
-use Rattle.machine.specs.Theorems.{reply}
-use Rattle.machine.proofs.Calls.{forwards, stepsTaken, snoc, step-last, reply-last}
-use Rattle.machine.proofs.Links.{Link, Walk}
+use Rattle.conditions.specs.Trail.{Call, step, run, back, Entry, Trail, trail, extended, judgedLast, enteredLast, dropped, stepTraced, traced, Reply, replyOf, standing, replies}
+use Rattle.conditions.specs.Theorems.{answer}
+use Rattle.conditions.proofs.Calls.{forwards, stepsTaken, snoc, step-last, reply-last}
+use Rattle.conditions.proofs.Links.{Link, Walk}
+use Rattle.conditions.proofs.Repeats.{run-repeats}
 
 -- the start of a trail
 unfoldable pub first : Entry → List Entry → Entry
@@ -48,9 +49,9 @@ module _ (d p : List ℕ) (journal : ℕ) where
   dropped-begins x (y ∷ ys) = refl
 
   pub call-begins : (c : Call) (t : Trail) → Begins t (traced d p journal c t)
-  unfolding traced
+  unfolding traced stepTraced
   call-begins step t = onward-begins (judgedLast d p journal t) t (λ u. outcome u 0 0) (λ u. refl)
-  call-begins (run n) t = admitted-begins (eqb (enteredLast d p journal t) 0) (enteredLast d p journal t) t _ (repeated-begins n t)
+  call-begins (run n) t = admitted-begins (eqb (enteredLast d p journal t) 0) (enteredLast d p journal t) t _ (rw (run-repeats d p journal n t) (repeated-begins n t))
   call-begins back t = dropped-begins (t .last) (t .earlier)
 
   pub begins :
@@ -62,7 +63,7 @@ module _ (d p : List ℕ) (journal : ℕ) where
 
   -- the step of a link
   link-step : (j : List ℕ) (x y : Entry) (ys : List Entry) → Link d p journal j x y → traced d p journal step (trail y ys) ≡ outcome (trail x (y ∷ ys)) 1 0
-  unfolding traced
+  unfolding traced stepTraced
   link-step j x y ys l = rw (l .taken, l .advances)
 
   -- as many steps from the start
@@ -82,7 +83,7 @@ module _ (d p : List ℕ) (journal : ℕ) where
       ∙ ap (λ (l : List Reply). l ++ (replyOf (traced d p journal step (standing (traced d p journal) (forwards (length ys)) (trail (first y ys) []))) ∷ [])) (entries-taken j y ys (w .2))
       ∙ ap (λ (t : Trail). stepsTaken (length ys) ++ (replyOf (traced d p journal step t) ∷ [])) (entries j y ys (w .2))
       ∙ ap (λ (r : Outcome Trail). stepsTaken (length ys) ++ (replyOf r ∷ [])) (link-step j x y ys (w .0))
-      ∙ sym (snoc (reply 1 0) (length ys))
+      ∙ sym (snoc (answer 1 0) (length ys))
 
   -- fewer steps: the entry that stands so far back
   pub prefix :

@@ -6,16 +6,18 @@ use mathlib.Core.Bool.{Bool, true, false, cond}
 use lib.Dec.{eqb}
 use lib.ListN.{length, replicate}
 use native.Mathlib.Omega.{arith}
-use borrow.Author.Tests.{eqb-false, ne-eqb}
+use borrow.Author.Tests.{eqb-false}
 use Rattle.hexfloat.specs.Answer.{Answer, gives, stops}
 use Rattle.machine.specs.declared.verdict.Effect.{Effect}
 use Rattle.machine.specs.Back.{returning, backedBy, backed}
-use Rattle.machine.specs.Decide.{decided}
 use Rattle.machine.specs.Machine.{Machine, committed}
 use Rattle.machine.specs.Run.{repeated, entryOf, ran}
 use Rattle.machine.specs.Step.{Outcome, outcome, counted, onward, verdictOf, stepped}
-use Rattle.machine.specs.Trail.{step, called, Reply, replyOf, standing, replies}
-use Rattle.machine.specs.Theorems.{times, reply, KeepsSteps, LeavesAll}
+use Rattle.machine.proofs.Answers.{StopsBy}
+use Rattle.machine.proofs.Refusals.{StepNumber, decided-by}
+use Rattle.machine.proofs.Runs.{entry-stops}
+use Rattle.conditions.specs.Trail.{step, called, Reply, replyOf, standing, replies}
+use Rattle.conditions.specs.Theorems.{times, answer, KeepsSteps, LeavesAll}
 
 step-cases :
     (a : Answer Effect) (x : Machine) → (onward a x (λ e. committed e x) (λ y. outcome y 0 0) .stop ≡ 0 → ⊥) →
@@ -50,9 +52,15 @@ module _ (d p : List ℕ) where
   unfolding called stepped
   taken-step x e t = rw t
 
-  stopped-keeps : (x : Machine) (n k : ℕ) → verdictOf d p x ≡ stops k → KeepsSteps d p x n (outcome x 0 k)
+  -- no stop has the number 0
+  stop-number : (x : Machine) (k : ℕ) → verdictOf d p x ≡ stops k → k ≡ 0 → ⊥
+  stop-number x k t z =
+      let s : StepNumber k = subst (StopsBy StepNumber) t (decided-by d p (x .state .registers) (x .state .used) (x .memory) (length (x .journal))) in
+      omega (arith, s .some)
+
+  stopped-keeps : (x : Machine) (n k : ℕ) → verdictOf d p x ≡ stops k → (k ≡ 0 → ⊥) → KeepsSteps d p x n (outcome x 0 k)
   unfolding standing replies
-  stopped-keeps x n k t = record { kept = refl; taken = refl; within = omega arith; stopped = λ z. stopped-step x k t }
+  stopped-keeps x n k t some = record { kept = refl; taken = refl; within = omega arith; whole = λ z. absurd (some z); stopped = λ z. stopped-step x k t }
 
   -- one step more at the front
   more-keeps : (x : Machine) (e : Effect) (n : ℕ) (r : Outcome Machine) → verdictOf d p x ≡ gives e → KeepsSteps d p (committed e x) n r → KeepsSteps d p x (suc n) (counted r)
@@ -61,31 +69,27 @@ module _ (d p : List ℕ) where
       let more : r .taken + 1 ≡ suc (r .taken) = omega arith in
       let first = taken-step x e t in
       let kept : r .after ≡ times d p (suc (r .taken)) step x = h .kept ∙ ap (λ (o : Outcome Machine). times d p (r .taken) step (o .after)) (sym first) in
-      let taken : replies (called d p) (replicate (suc (r .taken)) step) x ≡ replicate (suc (r .taken)) (reply 1 0) =
+      let taken : replies (called d p) (replicate (suc (r .taken)) step) x ≡ replicate (suc (r .taken)) (answer 1 0) =
       ap (λ (o : Outcome Machine). replyOf o ∷ replies (called d p) (replicate (r .taken) step) (o .after)) first
-      ∙ ap (λ (l : List Reply). reply 1 0 ∷ l) (h .taken) in
+      ∙ ap (λ (l : List Reply). answer 1 0 ∷ l) (h .taken) in
       record {
         kept = kept ∙ ap (λ (k : ℕ). times d p k step x) (sym more);
-        taken = subst (λ (k : ℕ). replies (called d p) (replicate k step) x ≡ replicate k (reply 1 0)) (sym more) taken;
+        taken = subst (λ (k : ℕ). replies (called d p) (replicate k step) x ≡ replicate k (answer 1 0)) (sym more) taken;
         within = omega (arith, h .within);
+        whole = λ z. omega (arith, h .whole z);
         stopped = h .stopped;
       }
 
   steps-keep : (n : ℕ) (x : Machine) → KeepsSteps d p x n (steps n x)
   unfolding repeated standing replies
-  steps-keep zero x = record { kept = refl; taken = refl; within = omega arith; stopped = λ z. absurd (z refl) }
+  steps-keep zero x = record { kept = refl; taken = refl; within = omega arith; whole = λ z. refl; stopped = λ z. absurd (z refl) }
   steps-keep (suc n) x = cases (steps-keep n) (verdictOf d p x) refl
     where
       cases :
           ((y : Machine) → KeepsSteps d p y n (steps n y)) → (a : Answer Effect) → verdictOf d p x ≡ a →
           KeepsSteps d p x (suc n) (onward a x (λ e. committed e x) (steps n))
-      cases rest (stops k) t = stopped-keeps x (suc n) k t
+      cases rest (stops k) t = stopped-keeps x (suc n) k t (stop-number x k t)
       cases rest (gives e) t = more-keeps x e n (steps n (committed e x)) t (rest (committed e x))
-
-  -- checks 1 to 3 are the first of a step too
-  entry-stops : (x : Machine) → (entryOf d p x ≡ 0 → ⊥) → verdictOf d p x ≡ stops (entryOf d p x)
-  unfolding decided
-  entry-stops x h = rw (ne-eqb (entryOf d p x) 0 h)
 
   run-keeps : (limit : ℕ) (x : Machine) → KeepsSteps d p x limit (ran d p limit x)
   unfolding ran
@@ -93,7 +97,7 @@ module _ (d p : List ℕ) where
     where
       cases : (b : Bool) → eqb (entryOf d p x) 0 ≡ b → KeepsSteps d p x limit (cond b (steps limit x) (outcome x 0 (entryOf d p x)))
       cases true e = steps-keep limit x
-      cases false e = stopped-keeps x limit (entryOf d p x) (entry-stops x (eqb-false (entryOf d p x) 0 e))
+      cases false e = stopped-keeps x limit (entryOf d p x) (entry-stops d p x (eqb-false (entryOf d p x) 0 e)) (eqb-false (entryOf d p x) 0 e)
 
 pub leaves-all : (d p : List ℕ) (x : Machine) → LeavesAll d p x
 leaves-all d p x = record { step = step-leaves d p x; back = back-leaves p x; run = λ limit. run-keeps d p limit x }

@@ -6,20 +6,20 @@ use lib.ListN.{length, getD}
 use native.Mathlib.Omega.{arith}
 use borrow.Author.Tests.{ne-eqb}
 use Rattle.hexfloat.specs.Answer.{gives}
 use Rattle.machine.specs.declared.state.State.{State}
 use Rattle.machine.specs.declared.verdict.Effect.{Effect}
 use Rattle.machine.specs.Back.{allowed, returning, backed}
 use Rattle.machine.specs.Change.{memoryAfter}
 use Rattle.machine.specs.Decide.{heldStop, decided}
 use Rattle.machine.specs.Journal.{recordAt, written, encoded, decoded}
 use Rattle.machine.specs.Machine.{Machine, machine, stateAfter, beforeOf, committed}
 use Rattle.machine.specs.Step.{outcome}
-use Rattle.machine.specs.Trail.{Entry, entry, advanced}
-use Rattle.machine.specs.Theorems.{shown}
+use Rattle.conditions.specs.Trail.{Entry, entry, entryAfter}
+use Rattle.conditions.specs.Theorems.{wholeOf}
 use Rattle.machine.proofs.Checks.{Held, held, held-zero, entered}
 use Rattle.machine.proofs.Decided.{Taken, decided-taken}
-use Rattle.machine.proofs.Records.{written-length, written-other, written-same, record-agrees, decoded-encoded}
-use Rattle.machine.proofs.Restore.{Halfwords, float-back, general-back, memory-back, placed-old, guarded-old, memory-length, memory-halfwords}
+use Rattle.conditions.proofs.Records.{written-length, written-other, written-same, record-agrees, decoded-encoded}
+use Rattle.conditions.proofs.Restore.{Halfwords, float-back, general-back, memory-back, registered-old, placed-old, guarded-old, memory-length, memory-halfwords}
 
 -- an effect put back
 abbrev pub undone : Effect → Entry → Entry
@@ -37,8 +37,8 @@ module _ (d p : List ℕ) (journal : ℕ) where
     pub leads : undone old x ≡ y
     pub used : x .state .used ≡ y .state .used + 1
     pub new : Effect
-    pub taken : decided d p (y .state) (y .memory) journal ≡ gives new
-    pub advances : advanced new y ≡ x
+    pub taken : decided d p (y .state .registers) (y .state .used) (y .memory) journal ≡ gives new
+    pub advances : entryAfter new y ≡ x
 
   -- each earlier entry, the latest first, is linked to the one after it
   unfoldable pub Walk : List ℕ → Entry → List Entry → Type 0
@@ -72,35 +72,42 @@ module _ (d p : List ℕ) (journal : ℕ) where
         walk-agrees j l e y ys (λ i b. h i (omega (arith, k .used))) (w .2),
       )
 
-  module _ (x : Machine) (size : length (x .journal) ≡ journal) (kept : Kept (shown x))
-      (e : Effect) (taken : decided d p (x .state) (x .memory) journal ≡ gives e) where
-    facts : Taken d p (x .state) (x .memory) journal e
-    facts = decided-taken p (x .state) (x .memory) journal e d taken
+  module _ (x : Machine) (size : length (x .journal) ≡ journal) (kept : Kept (wholeOf x))
+      (e : Effect) (taken : decided d p (x .state .registers) (x .state .used) (x .memory) journal ≡ gives e) where
+    facts : Taken d p (x .state .registers) (x .state .used) (x .memory) journal e
+    facts = decided-taken d p (x .state .registers) (x .state .used) (x .memory) journal e taken
 
-    checks : Held (length p) (x .state) (length (x .memory)) journal
-    checks = held (length p) (x .state) (length (x .memory)) journal (entered (length d) (length p) (x .state) (length (x .memory)) journal (facts .entry) .1)
+    checks : Held (length p) (x .state .registers) (x .state .used) (length (x .memory)) journal
+    checks =
+        held (length p) (x .state .registers) (x .state .used) (length (x .memory)) journal
+        (entered (length p) (x .state .registers) (x .state .used) (length (x .memory)) journal (length d) (facts .entry) .1)
 
     -- what the record says
     abbrev before : Effect
     before = beforeOf (x .state .registers) (x .memory) e
 
-    still-held : heldStop (length p) (committed e x .state) (length (committed e x .memory)) (length (committed e x .journal)) ≡ 0
+    still-held : heldStop (length p) (committed e x .state .registers) (committed e x .state .used) (length (committed e x .memory)) (length (committed e x .journal)) ≡ 0
     still-held =
         rw (memory-length (e .change) (x .memory), written-length (x .journal) (x .state .used) (encoded before), size)
-        (held-zero (length p) (committed e x .state) (length (x .memory)) journal
+        (held-zero (length p) (committed e x .state .registers) (committed e x .state .used) (length (x .memory)) journal
         (record {
           memory-size = checks .memory-size;
           journal-size = checks .journal-size;
           cover = checks .cover;
-          code = facts .fine .code;
+          condition = facts .fine .condition;
           mask = facts .fine .mask;
-          used = omega (arith, facts .room);
+          room = omega (arith, facts .room);
         }))
 
     reread : decoded (recordAt (committed e x .journal) (x .state .used)) ≡ gives before
     reread =
         rw (written-same (x .journal) (x .state .used) (encoded before) (omega (arith, facts .room, size)))
-        (decoded-encoded before (facts .pointer) (checks .code) (checks .mask))
+        (decoded-encoded before (record {
+          condition = checks .condition;
+          mask = checks .mask;
+          pointer = facts .pointer;
+          registers = registered-old (x .state .registers) (x .memory) (e .change) ∙ facts .fine .registers;
+        }))
 
     allows : allowed before p (length (committed e x .memory)) ≡ gives before
     unfolding allowed
@@ -119,7 +126,7 @@ module _ (d p : List ℕ) (journal : ℕ) where
         let one : x .state .used + 1 - 1 ≡ x .state .used = omega arith in
         rw (still-held, ne-eqb (x .state .used + 1) 0 (λ z. omega arith), one, reread) allows
 
-    back-again : undone before (shown (committed e x)) ≡ shown x
+    back-again : undone before (wholeOf (committed e x)) ≡ wholeOf x
     back-again =
         let one : x .state .used + 1 - 1 ≡ x .state .used = omega arith in
         rw (
@@ -129,7 +136,7 @@ module _ (d p : List ℕ) (journal : ℕ) where
           one,
         )
 
-    pub link-new : Link (committed e x .journal) (shown (committed e x)) (shown x)
+    pub link-new : Link (committed e x .journal) (wholeOf (committed e x)) (wholeOf x)
     link-new = record {
       old = before;
       returns = returns-before;
@@ -148,18 +155,18 @@ module _ (d p : List ℕ) (journal : ℕ) where
     pub saved-new : recordAt (committed e x .journal) (x .state .used) ≡ encoded before
     saved-new = written-same (x .journal) (x .state .used) (encoded before) (omega (arith, facts .room, size))
 
-    pub kept-new : Kept (shown (committed e x))
+    pub kept-new : Kept (wholeOf (committed e x))
     kept-new = record { halfwords = memory-halfwords (e .change) (x .memory) (kept .halfwords) }
 
     pub size-new : length (committed e x .journal) ≡ journal
     size-new = written-length (x .journal) (x .state .used) (encoded before) ∙ size
 
     -- the earlier links stand: the record is written past what they read
-    pub walk-new : (ys : List Entry) → Walk (x .journal) (shown x) ys → Walk (committed e x .journal) (shown (committed e x)) (shown x ∷ ys)
+    pub walk-new : (ys : List Entry) → Walk (x .journal) (wholeOf x) ys → Walk (committed e x .journal) (wholeOf (committed e x)) (wholeOf x ∷ ys)
     unfolding Walk
     walk-new ys w = (
       link-new,
       kept,
-      walk-agrees (x .journal) (committed e x .journal) (written-length (x .journal) (x .state .used) (encoded before)) (shown x) ys
+      walk-agrees (x .journal) (committed e x .journal) (written-length (x .journal) (x .state .used) (encoded before)) (wholeOf x) ys
           (λ i b. written-other (x .journal) (x .state .used) (encoded before) i (λ z. omega arith)) w,
     )

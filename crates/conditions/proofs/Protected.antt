@@ -8,18 +8,18 @@ use lib.ListN.{length, getD, set}
 use lib.Seq.{getD-set-other}
 use native.Mathlib.Omega.{arith}
 use Rattle.hexfloat.specs.Answer.{Answer, gives, stops}
 use Rattle.machine.specs.declared.change.Change.{Change}
 use Rattle.machine.specs.declared.verdict.Effect.{Effect}
 use Rattle.machine.specs.Back.{returning, backedBy, backed}
 use Rattle.machine.specs.Change.{guarded, putWord, memoryAfter}
 use Rattle.machine.specs.Machine.{Machine, committed}
 use Rattle.machine.specs.Protect.{isProtected, anyProtected}
 use Rattle.machine.specs.Run.{repeated, entryOf, ran}
 use Rattle.machine.specs.Step.{Outcome, outcome, onward, verdictOf, stepped}
-use Rattle.machine.specs.Trail.{Call, step, run, back, called, standing}
-use Rattle.machine.specs.Theorems.{machineAfter}
+use Rattle.conditions.specs.Trail.{Call, step, run, back, called, standing}
+use Rattle.conditions.specs.Theorems.{machineAfter}
 use Rattle.machine.proofs.Decided.{decided-taken}
 use Rattle.machine.proofs.Returning.{returning-gives}
 
 either : (a b : Bool) → (a || b) ≡ false → (a ≡ false) × (b ≡ false)
 either true b h = absurd (let z : _≡_ {A = ℕ} 0 1 = cc in omega arith)
@@ -65,7 +65,7 @@ module _ (p : List ℕ) (a : ℕ) (protected : isProtected p a ≡ true) where
         cases : (v : Answer Effect) → verdictOf d p x ≡ v → Keeps x (onward v x (λ e. committed e x) f)
         cases (stops k) t = refl
         cases (gives e) t =
-            rest (committed e x) ∙ change-keeps (e .change) (x .memory) (decided-taken p (x .state) (x .memory) (length (x .journal)) e d t .fine .free)
+            rest (committed e x) ∙ change-keeps (e .change) (x .memory) (decided-taken d p (x .state .registers) (x .state .used) (x .memory) (length (x .journal)) e t .fine .free)
 
     repeated-keeps : (n : ℕ) (x : Machine) → Keeps x (repeated (verdictOf d p) (λ y e. committed e y) n x)
     unfolding repeated

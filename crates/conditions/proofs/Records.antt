@@ -1,18 +1,22 @@
 -- A record is read back as it was written, and no other is touched.
-use Prim.Native.Nat.{ℕ, _+_, _*_, _/_, _%_, _<_, _≤_}
-use mathlib.Core.Path.{_≡_, refl, _∙_}
+use Prim.Native.Nat.{ℕ, _+_, _*_, _/_, _%_, _^_, _<_, _≤_}
+use mathlib.Core.Path.{_≡_, refl, subst, _∙_}
 use mathlib.Core.List.{List}
 use mathlib.Core.Bool.{true}
 use lib.ListN.{length, getD, set, length-set}
 use lib.Seq.{getD-set-same, getD-set-other}
 use native.Mathlib.Omega.{arith}
 use Rattle.hexfloat.specs.Answer.{gives}
 use Rattle.machine.specs.declared.change.Change.{Change}
 use Rattle.machine.specs.declared.journal.Record.{Record}
 use Rattle.machine.specs.declared.verdict.Effect.{Effect}
-use Rattle.machine.specs.Check.{codeFormed}
-use Rattle.machine.specs.Journal.{fourWords, recordAt, written, encodedAs, encoded, oneFrom, changeFrom, decoded}
-use Rattle.machine.proofs.Checks.{code-below}
+use Rattle.machine.specs.declared.state.Status.{Status}
+use Rattle.machine.specs.Change.{registered}
+use Rattle.machine.specs.Journal.{fourWords, recordAt, written, encodedAs, encoded, changeFrom, effectFrom, decoded, Recordable}
+use Rattle.machine.specs.Status.{conditionFormed, packed, unpacked}
+use Rattle.machine.proofs.Checks.{condition-below}
+use Rattle.machine.proofs.Returning.{decoded-gives}
+use Rattle.conditions.specs.Theorems.{ReadByForm}
 
 pub written-length : (j : List ℕ) (k : ℕ) (q : Record) → length (written j k q) ≡ length j
 unfolding written
@@ -62,30 +66,67 @@ written-same j k q h =
 pub record-agrees : (j l : List ℕ) (k : ℕ) → ((i : ℕ) → i < k * 4 + 4 → getD l i 0 ≡ getD j i 0) → recordAt l k ≡ recordAt j k
 record-agrees j l k h = rw (h (k * 4) (omega arith), h (k * 4 + 1) (omega arith), h (k * 4 + 2) (omega arith), h (k * 4 + 3) (omega arith))
 
-module _ (pointer code mask : ℕ) (hp : pointer < 65536) (hc : codeFormed code ≡ true) (hm : mask ≤ 1) where
-  at-kind :
-      (kind head place left right : ℕ) (ch : Change) → head ≡ pointer + 65536 * code + 262144 * mask + 524288 * kind →
-      changeFrom kind place left right ≡ gives ch →
-      decoded (fourWords head place left right) ≡ gives (record { change = ch; code = code; mask = mask; pointer = pointer })
-  unfolding decoded
-  at-kind kind head place left right ch h e =
-      let below = code-below code hc in
-      let c : head / 65536 % 4 ≡ code = omega arith in
-      let m : head / 262144 % 2 ≡ mask = omega arith in
-      let p : head % 65536 ≡ pointer = omega arith in
-      let k : head / 524288 ≡ kind = omega arith in
-      rw (c, hc, k, e, c, m, p)
+-- a status comes back out of word 0, whatever kind stands above it
+pub record BackFrom (s : Status) (kind head : ℕ) : Type 0 where
+  pub status : unpacked head ≡ s
+  pub above : head / 2 ^ 19 ≡ kind
 
-  change-back :
-      (ch : Change) → decoded (encodedAs (pointer + 65536 * code + 262144 * mask) ch) ≡ gives (record { change = ch; code = code; mask = mask; pointer = pointer })
-  unfolding encodedAs changeFrom oneFrom
-  change-back Change.Nothing = at-kind 0 (pointer + 65536 * code + 262144 * mask) 0 0 0 Change.Nothing (omega arith) refl
-  change-back (Change.Float r w) = at-kind 1 (pointer + 65536 * code + 262144 * mask + 524288) r w 0 (Change.Float r w) (omega arith) refl
-  change-back (Change.Pair r x y) = at-kind 2 (pointer + 65536 * code + 262144 * mask + 1048576) r x y (Change.Pair r x y) (omega arith) refl
-  change-back (Change.General r w) = at-kind 3 (pointer + 65536 * code + 262144 * mask + 1572864) r w 0 (Change.General r w) (omega arith) refl
-  change-back (Change.Two a w) = at-kind 4 (pointer + 65536 * code + 262144 * mask + 2097152) a w 0 (Change.Two a w) (omega arith) refl
-  change-back (Change.Four a x y) = at-kind 5 (pointer + 65536 * code + 262144 * mask + 2621440) a x y (Change.Four a x y) (omega arith) refl
+pub status-back :
+    (s : Status) (kind : ℕ) → s .pointer < 65536 → conditionFormed (s .condition) ≡ true → s .mask ≤ 1 → BackFrom s kind (packed s + 2 ^ 19 * kind)
+unfolding packed unpacked
+status-back s kind hp hc hm =
+    let below = condition-below (s .condition) hc in
+    let w = s .pointer + 65536 * s .condition + 262144 * s .mask + 524288 * kind in
+    let c : w / 65536 % 4 ≡ s .condition = omega arith in
+    let m : w / 262144 % 2 ≡ s .mask = omega arith in
+    let p : w % 65536 ≡ s .pointer = omega arith in
+    record { status = rw (c, m, p); above = omega arith }
+
+-- and word 0 is the status and the kind that are taken out of it
+head-back : (w : ℕ) → packed (unpacked w) + 2 ^ 19 * (w / 2 ^ 19) ≡ w
+unfolding packed unpacked
+head-back w = omega arith
+
+module _ (s : Status) (hp : s .pointer < 65536) (hc : conditionFormed (s .condition) ≡ true) (hm : s .mask ≤ 1) where
+  at-kind :
+      (kind place left right : ℕ) (ch : Change) → changeFrom kind place left right ≡ gives ch →
+      decoded (fourWords (packed s + 2 ^ 19 * kind) place left right) ≡ gives (effectFrom s ch)
+  unfolding decoded
+  at-kind kind place left right ch e = let b = status-back s kind hp hc hm in rw (b .status, hc, b .above, e)
+
+  change-back : (ch : Change) → registered ch ≡ true → decoded (encodedAs (packed s) ch) ≡ gives (effectFrom s ch)
+  unfolding encodedAs changeFrom registered
+  change-back Change.Nothing h = let none : packed s + 2 ^ 19 * 0 ≡ packed s = omega arith in rw none at (at-kind 0 0 0 0 Change.Nothing refl)
+  change-back (Change.Float r w) h = at-kind 1 r w 0 (Change.Float r w) (rw h)
+  change-back (Change.Pair r x y) h = at-kind 2 r x y (Change.Pair r x y) (rw h)
+  change-back (Change.General r w) h = at-kind 3 r w 0 (Change.General r w) (rw h)
+  change-back (Change.Two a w) h = at-kind 4 a w 0 (Change.Two a w) refl
+  change-back (Change.Four a x y) h = at-kind 5 a x y (Change.Four a x y) refl
 
 -- what is encoded is decoded
-pub decoded-encoded : (e : Effect) → e .pointer < 65536 → codeFormed (e .code) ≡ true → e .mask ≤ 1 → decoded (encoded e) ≡ gives e
-decoded-encoded e hp hc hm = change-back (e .pointer) (e .code) (e .mask) hp hc hm (e .change)
+pub decoded-encoded : (e : Effect) → Recordable e → decoded (encoded e) ≡ gives e
+decoded-encoded e r = change-back (e .status) (r .pointer) (r .condition) (r .mask) (e .change) (r .registers)
+
+-- what is taken out of word 0 is of its width
+narrow : (w : ℕ) → (unpacked w .mask ≤ 1) × (unpacked w .pointer < 65536)
+unfolding unpacked
+narrow w = (omega arith, omega arith)
+
+-- and nothing else is
+read-formed : (q : Record) (e : Effect) → decoded q ≡ gives e → (q ≡ encoded e) × Recordable e
+read-formed q e h =
+    let d = decoded-gives q e h in
+    let w = q .head in
+    let same = d .1 in
+    (
+      rw (← same, ← d .2 .words (packed (unpacked w)), head-back w),
+      record {
+        condition = subst (λ (s : Status). conditionFormed (s .condition) ≡ true) same (d .0);
+        mask = subst (λ (s : Status). s .mask ≤ 1) same (narrow w .0);
+        pointer = subst (λ (s : Status). s .pointer < 65536) same (narrow w .1);
+        registers = d .2 .registers;
+      },
+    )
+
+pub read-by-form : (q : Record) (e : Effect) → ReadByForm q e
+read-by-form q e = record { formed = read-formed q e; read = λ same r. rw same (decoded-encoded e r) }

@@ -6,10 +6,10 @@ use mathlib.Core.List.{List, [], _∷_}
 use lib.ListN.{length, getD, set, length-set}
 use lib.Seq.{set-set, set-comm, set-getD}
 use native.Mathlib.Omega.{arith}
 use Rattle.machine.specs.declared.change.Change.{Change}
 use Rattle.machine.specs.declared.state.Registers.{Registers}
-use Rattle.machine.specs.Change.{placed, guarded, oldOf, floatAfter, generalAfter, putWord, memoryAfter}
+use Rattle.machine.specs.Change.{registered, placed, guarded, oldOf, floatAfter, generalAfter, putWord, memoryAfter}
 use Rattle.machine.specs.Operand.{wordAt}
 
 -- every element is a halfword
 abbrev pub Halfwords : List ℕ → Type 0
@@ -71,6 +71,15 @@ memory-back g m h (Change.Four a x y) =
     ∙ word-back m h (a + 2) y
 
 -- the old contents stand at the same places
+pub registered-old : (g : Registers) (m : List ℕ) (ch : Change) → registered (oldOf g m ch) ≡ registered ch
+unfolding registered oldOf
+registered-old g m Change.Nothing = refl
+registered-old g m (Change.Float r w) = refl
+registered-old g m (Change.Pair r x y) = refl
+registered-old g m (Change.General r w) = refl
+registered-old g m (Change.Two a w) = refl
+registered-old g m (Change.Four a x y) = refl
+
 pub placed-old : (g : Registers) (m : List ℕ) (n : ℕ) (ch : Change) → placed (oldOf g m ch) n ≡ placed ch n
 unfolding placed oldOf
 placed-old g m n Change.Nothing = refl

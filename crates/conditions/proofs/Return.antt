@@ -8,15 +8,16 @@ use lib.ListN.{length, getD}
 use native.Mathlib.Omega.{arith}
 use borrow.Author.Tests.{eqb-false}
 use Rattle.hexfloat.specs.Answer.{gives}
 use Rattle.machine.specs.declared.verdict.Effect.{Effect}
 use Rattle.machine.specs.Decide.{decided}
 use Rattle.machine.specs.Machine.{Machine, committed}
 use Rattle.machine.specs.Step.{Outcome, outcome, stepped}
-use Rattle.machine.specs.Trail.{Call, step, back, Entry, trail, advanced, heldAt, dropped, traced, called, Reply, replyOf, standing, replies, Behind}
-use Rattle.machine.specs.Theorems.{Typed, shown, startOf, machineAfter, trailAfter, stepsAfter, times, reply, Included, BackAndForth, RefusedAtStart}
-use Rattle.machine.proofs.Calls.{backs, forwards, backsTaken, stepsTaken, snoc, step-last, reply-last, covered-append}
-use Rattle.machine.proofs.Links.{Link, Walk}
-use Rattle.machine.proofs.Trail.{Good, Same, trailOf, call-same, good-new, from, steps-covered, stood-entry}
+use Rattle.conditions.specs.Trail.{Call, step, back, Entry, trail, entryAfter, heldAt, dropped, traced, called, Reply, replyOf, standing, replies, Behind}
+use Rattle.conditions.specs.Theorems.{Typed, wholeOf, startOf, machineAfter, trailAfter, stepsAfter, times, answer, Included, BackAndForth, RefusedAtStart}
+use Rattle.conditions.proofs.Calls.{backs, forwards, backsTaken, stepsTaken, snoc, step-last, reply-last, covered-append}
+use Rattle.conditions.proofs.Counted.{some-number}
+use Rattle.conditions.proofs.Links.{Link, Walk}
+use Rattle.conditions.proofs.Trail.{Good, Same, trailOf, call-same, good-new, from, steps-covered, stood-entry}
 
 module _ (d p : List ℕ) (journal base : ℕ) where
   -- one back step where an entry stands before
@@ -30,7 +31,7 @@ module _ (d p : List ℕ) (journal base : ℕ) where
 
   -- k back steps, each taken
   pub record Went (k : ℕ) (x : Machine) (es : List Entry) : Type 0 where
-    pub finds : (other : Entry) → shown (standing (called d p) (backs k) x) ≡ getD (shown x ∷ es) k other
+    pub finds : (other : Entry) → wholeOf (standing (called d p) (backs k) x) ≡ getD (wholeOf x ∷ es) k other
     pub answers : replies (called d p) (backs k) x ≡ backsTaken k
 
   went : (k : ℕ) (x : Machine) (es : List Entry) → Good d p journal base x es → k ≤ length es → Went k x es
@@ -48,14 +49,14 @@ module _ (d p : List ℕ) (journal base : ℕ) where
 
   -- a step from where the entry after it is known
   step-again :
-      (w : Machine) (es : List Entry) → Good d p journal base w es → (new : Effect) → decided d p (w .state) (w .memory) journal ≡ gives new →
+      (w : Machine) (es : List Entry) → Good d p journal base w es → (new : Effect) → decided d p (w .state .registers) (w .state .used) (w .memory) journal ≡ gives new →
       called d p step w ≡ outcome (committed new w) 1 0
   unfolding called stepped
   step-again w es g new t = rw (g .size, t)
 
   -- k back steps, and k steps from there, each taken
   pub record Round (k : ℕ) (x : Machine) (es : List Entry) : Type 0 where
-    pub finds : shown (standing (called d p) (forwards k) (standing (called d p) (backs k) x)) ≡ shown x
+    pub finds : wholeOf (standing (called d p) (forwards k) (standing (called d p) (backs k) x)) ≡ wholeOf x
     pub good : Good d p journal base (standing (called d p) (forwards k) (standing (called d p) (backs k) x)) es
     pub answers : replies (called d p) (forwards k) (standing (called d p) (backs k) x) ≡ stepsTaken k
 
@@ -71,14 +72,14 @@ module _ (d p : List ℕ) (journal base : ℕ) where
     w : Machine
     w = standing (called d p) (forwards k) z
 
-    link : Link d p journal (x .journal) (shown x) e
+    link : Link d p journal (x .journal) (wholeOf x) e
     unfolding Walk
     link = g .walk .0
 
     abbrev new : Effect
     new = link .new
 
-    back-at : shown r ≡ e
+    back-at : wholeOf r ≡ e
     unfolding traced r
     back-at = sym (back-one x e es g .last)
 
@@ -87,7 +88,7 @@ module _ (d p : List ℕ) (journal base : ℕ) where
     back-good = back-one x e es g .good
 
     module _ (i : Round k r es) where
-      at : shown w ≡ e
+      at : wholeOf w ≡ e
       unfolding w z
       at = i .finds ∙ back-at
 
@@ -95,8 +96,8 @@ module _ (d p : List ℕ) (journal base : ℕ) where
       unfolding w z
       good = i .good
 
-      decides : decided d p (w .state) (w .memory) journal ≡ gives new
-      decides = subst (λ (y : Entry). decided d p (y .state) (y .memory) journal ≡ gives new) (sym at) (link .taken)
+      decides : decided d p (w .state .registers) (w .state .used) (w .memory) journal ≡ gives new
+      decides = subst (λ (y : Entry). decided d p (y .state .registers) (y .state .used) (y .memory) journal ≡ gives new) (sym at) (link .taken)
 
       again : called d p step w ≡ outcome (committed new w) 1 0
       again = step-again w es good new decides
@@ -111,11 +112,11 @@ module _ (d p : List ℕ) (journal base : ℕ) where
           reply-last (called d p) k z
           ∙ ap (λ (l : List Reply). l ++ (replyOf (called d p step w) ∷ [])) (i .answers)
           ∙ ap (λ (o : Outcome Machine). stepsTaken k ++ (replyOf o ∷ [])) again
-          ∙ sym (snoc (reply 1 0) k)
+          ∙ sym (snoc (answer 1 0) k)
 
       round-on : Round (suc k) x (e ∷ es)
       round-on = record {
-        finds = ap shown stands ∙ ap (advanced new) at ∙ link .advances;
+        finds = ap wholeOf stands ∙ ap (entryAfter new) at ∙ link .advances;
         good = subst (λ (y : Machine). Good d p journal base y (e ∷ es)) (sym stands)
             (subst (λ (y : Entry). Good d p journal base (committed new w) (y ∷ es)) at (good-new d p journal base w es new good decides));
         answers = answered;
@@ -128,13 +129,6 @@ module _ (d p : List ℕ) (journal base : ℕ) where
   round (suc k) x (e ∷ es) g h = round-on k x e es g (round k (called d p back x .after) es (back-good k x e es g) (omega arith))
 
 -- the answer of the trail's back step is a stop only with the start alone
-some-number : (k : ℕ) → cond (eqb k 0) 14 k ≡ 0 → ⊥
-some-number k h = cases (eqb k 0) refl h
-  where
-    cases : (b : Bool) → eqb k 0 ≡ b → cond b 14 k ≡ 0 → ⊥
-    cases true e z = omega arith
-    cases false e z = eqb-false k 0 e z
-
 alone-stops : (journal : ℕ) (p : List ℕ) (x : Entry) (es : List Entry) → length es ≡ 0 → dropped p journal x es .stop ≡ 0 → ⊥
 alone-stops journal p x [] h = some-number (heldAt p journal x)
 alone-stops journal p x (e ∷ es) h = absurd (omega arith)
@@ -148,9 +142,9 @@ module _ (d p : List ℕ) (x : Machine) (cs : List Call) (typed : Typed (x .memo
   -- what the first i steps from the start lead to
   stood :
       Included d p x cs → (i : ℕ) → i ≤ stepsAfter d p cs x →
-      shown (times d p i step x) ≡ getD (trailAfter d p cs x .last ∷ trailAfter d p cs x .earlier) (stepsAfter d p cs x - i) (shown x)
+      wholeOf (times d p i step x) ≡ getD (trailAfter d p cs x .last ∷ trailAfter d p cs x .earlier) (stepsAfter d p cs x - i) (wholeOf x)
   stood v i h =
-      from d p (forwards i) x typed (steps-covered d p (length (x .journal)) i (startOf x)) .last ∙ stood-entry d p cs x typed v i h (shown x)
+      from d p (forwards i) x typed (steps-covered d p (length (x .journal)) i (startOf x)) .last ∙ stood-entry d p cs x typed v i h (wholeOf x)
 
   pub back-and-forth : (k : ℕ) → Included d p x cs → k ≤ stepsAfter d p cs x → BackAndForth d p x cs k
   back-and-forth k v h =
@@ -164,9 +158,9 @@ module _ (d p : List ℕ) (x : Machine) (cs : List Call) (typed : Typed (x .memo
       record {
         backs = w .answers;
         found =
-            w .finds (shown x)
-            ∙ ap (λ (z : Entry). getD (z ∷ t .earlier) k (shown x)) (f .last)
-            ∙ ap (λ (i : ℕ). getD (t .last ∷ t .earlier) i (shown x)) place
+            w .finds (wholeOf x)
+            ∙ ap (λ (z : Entry). getD (z ∷ t .earlier) k (wholeOf x)) (f .last)
+            ∙ ap (λ (i : ℕ). getD (t .last ∷ t .earlier) i (wholeOf x)) place
             ∙ sym (stood v (n - k) (omega arith));
         steps = r .answers;
         again = r .finds;
@@ -182,6 +176,6 @@ module _ (d p : List ℕ) (x : Machine) (cs : List Call) (typed : Typed (x .memo
       let c = subst (λ (z : Entry). Behind p (length (x .journal)) (trail z (t .earlier)) → ⊥) (sym (f .last)) (w .1) in
       let s = call-same d p (length (x .journal)) (x .state .used) back y (t .earlier) (f .good) c .stop in
       record {
-        refused = λ n e. alone-stops (length (x .journal)) p (shown y) (t .earlier) n (sym s ∙ e);
-        taken = λ n. s ∙ before-takes (length (x .journal)) p (shown y) (t .earlier) n;
+        refused = λ n e. alone-stops (length (x .journal)) p (wholeOf y) (t .earlier) n (sym s ∙ e);
+        taken = λ n. s ∙ before-takes (length (x .journal)) p (wholeOf y) (t .earlier) n;
       }

@@ -1,11 +1,12 @@
 -- Conditions 1 and 3 of the machine, proved of its definitions.
-use Rattle.machine.specs.Theorems.{Theorems}
-use Rattle.machine.proofs.Leaves.{leaves-all}
-use Rattle.machine.proofs.Protected.{protected-keeps}
-use Rattle.machine.proofs.Return.{back-and-forth, refused-at-start}
-use Rattle.machine.proofs.Taken.{zero-is-taken}
-use Rattle.machine.proofs.Trail.{as-trail, included}
-use Rattle.machine.proofs.Writes.{one-record}
+use Rattle.conditions.specs.Theorems.{Theorems}
+use Rattle.conditions.proofs.Leaves.{leaves-all}
+use Rattle.conditions.proofs.Numbers.{one-of-the-numbers, zero-is-taken}
+use Rattle.conditions.proofs.Protected.{protected-keeps}
+use Rattle.conditions.proofs.Records.{read-by-form}
+use Rattle.conditions.proofs.Return.{back-and-forth, refused-at-start}
+use Rattle.conditions.proofs.Trail.{as-trail, included}
+use Rattle.conditions.proofs.Writes.{one-record}
 
 pub theorems : Theorems
 theorems = record {
@@ -15,6 +16,8 @@ theorems = record {
   refused-at-start = refused-at-start;
   protected = λ d p x cs a h. protected-keeps p a h d cs x;
   leaves-all = leaves-all;
+  one-of-the-numbers = one-of-the-numbers;
+  read-by-form = read-by-form;
   zero-is-taken = zero-is-taken;
   one-record = one-record;
 }

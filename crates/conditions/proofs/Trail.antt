@@ -9,22 +9,24 @@ use native.Mathlib.Nat.{add-zero}
 use native.Mathlib.Omega.{arith}
 use borrow.Author.Tests.{eqb-true, eqb-false}
 use Rattle.hexfloat.specs.Answer.{Answer, gives, stops}
 use Rattle.machine.specs.declared.verdict.Effect.{Effect}
 use Rattle.machine.specs.Back.{returning, backed}
 use Rattle.machine.specs.Decide.{entryStop, decided}
 use Rattle.machine.specs.Machine.{Machine, machine, committed}
 use Rattle.machine.specs.Run.{repeated, admitted, ran}
 use Rattle.machine.specs.Says.{provided, checked}
 use Rattle.machine.specs.Step.{Outcome, outcome, onward, verdictOf, stepped}
-use Rattle.machine.specs.Trail.{Call, step, run, back, Entry, entry, Trail, trail, extended, judgedLast, heldAt, dropped, traced, called, standing, replies, Behind, Covered, AllCovered}
-use Rattle.machine.specs.Theorems.{Typed, shown, startOf, machineAfter, trailAfter, stepsAfter, Included, AsTrail}
-use Rattle.machine.proofs.Calls.{forwards, stepsTaken}
-use Rattle.machine.proofs.Entries.{first, call-begins, begins, entries, entries-taken, prefix}
-use Rattle.machine.proofs.Links.{Kept, Walk, kept-new, size-new, walk-new}
+use Rattle.conditions.specs.Trail.{Call, step, run, back, Entry, entry, Trail, trail, extended, judgedLast, heldAt, dropped, stepTraced, traced, called, standing, replies, Behind, Covered, AllCovered}
+use Rattle.conditions.specs.Theorems.{Typed, wholeOf, startOf, machineAfter, trailAfter, stepsAfter, Included, AsTrail}
+use Rattle.conditions.proofs.Calls.{forwards, stepsTaken}
+use Rattle.conditions.proofs.Entries.{first, call-begins, begins, entries, entries-taken, prefix}
+use Rattle.conditions.proofs.Counted.{counted-said}
+use Rattle.conditions.proofs.Links.{Kept, Walk, kept-new, size-new, walk-new}
+use Rattle.conditions.proofs.Repeats.{run-repeats}
 
 -- the trail whose last entry is where the machine is
 abbrev pub trailOf : Machine → List Entry → Trail
-trailOf x es = trail (shown x) es
+trailOf x es = trail (wholeOf x) es
 
 -- checks 2, 3 and 14 where nothing is left to put back
 first-check :
@@ -43,14 +45,14 @@ first-check k used rest h = cases (eqb k 0) (eqb used 0) refl refl
 module _ (d p : List ℕ) (journal base : ℕ) where
   -- a machine and the entries before where it is; base is the used count at the start
   pub record Good (x : Machine) (es : List Entry) : Type 0 where
-    pub kept : Kept (shown x)
+    pub kept : Kept (wholeOf x)
     pub size : length (x .journal) ≡ journal
     pub used : x .state .used ≡ base + length es
-    pub walk : Walk d p journal (x .journal) (shown x) es
+    pub walk : Walk d p journal (x .journal) (wholeOf x) es
 
   -- an outcome of the machine and one of the trail
   pub record Same (r : Outcome Machine) (u : Outcome Trail) : Type 0 where
-    pub last : u .after .last ≡ shown (r .after)
+    pub last : u .after .last ≡ wholeOf (r .after)
     pub taken : r .taken ≡ u .taken
     pub stop : r .stop ≡ u .stop
     pub good : Good (r .after) (u .after .earlier)
@@ -58,7 +60,7 @@ module _ (d p : List ℕ) (journal base : ℕ) where
   here : (x : Machine) (es : List Entry) (n k : ℕ) → Good x es → Same (outcome x n k) (outcome (trailOf x es) n k)
   here x es n k g = record { last = refl; taken = refl; stop = refl; good = g }
 
-  pub good-new : (x : Machine) (es : List Entry) (e : Effect) → Good x es → decided d p (x .state) (x .memory) journal ≡ gives e → Good (committed e x) (shown x ∷ es)
+  pub good-new : (x : Machine) (es : List Entry) (e : Effect) → Good x es → decided d p (x .state .registers) (x .state .used) (x .memory) journal ≡ gives e → Good (committed e x) (wholeOf x ∷ es)
   good-new x es e g t = record {
     kept = kept-new d p journal x (g .size) (g .kept) e t;
     size = size-new d p journal x (g .size) (g .kept) e t;
@@ -72,14 +74,14 @@ module _ (d p : List ℕ) (journal base : ℕ) where
       ((y : Machine) (fs : List Entry) → Good y fs → Same (f y) (h (trailOf y fs))) →
       Same (onward (verdictOf d p x) x (λ e. committed e x) f)
       (onward (judgedLast d p journal (trailOf x es)) (trailOf x es) (λ e. extended e (trailOf x es)) h)
-  onward-same x es g f h rest = rw (g .size) (cases (decided d p (x .state) (x .memory) journal) refl)
+  onward-same x es g f h rest = rw (g .size) (cases (decided d p (x .state .registers) (x .state .used) (x .memory) journal) refl)
     where
       cases :
-          (a : Answer Effect) → decided d p (x .state) (x .memory) journal ≡ a →
+          (a : Answer Effect) → decided d p (x .state .registers) (x .state .used) (x .memory) journal ≡ a →
           Same (onward a x (λ e. committed e x) f) (onward a (trailOf x es) (λ e. extended e (trailOf x es)) h)
       cases (stops k) t = here x es 0 k g
       cases (gives e) t =
-          let s = rest (committed e x) (shown x ∷ es) (good-new x es e g t) in
+          let s = rest (committed e x) (wholeOf x ∷ es) (good-new x es e g t) in
           record { last = s .last; taken = ap (λ (n : ℕ). n + 1) (s .taken); stop = s .stop; good = s .good }
 
   repeated-same :
@@ -102,17 +104,17 @@ module _ (d p : List ℕ) (journal base : ℕ) where
   -- with the start alone: the first of 2, 3, 14
   alone-returning :
       (x : Machine) → length (x .journal) ≡ journal → (Behind p journal (trailOf x []) → ⊥) →
-      returning p (x .state) (length (x .memory)) (x .journal) ≡ stops (cond (eqb (heldAt p journal (shown x)) 0) 14 (heldAt p journal (shown x)))
+      returning p (x .state) (length (x .memory)) (x .journal) ≡ stops (cond (eqb (heldAt p journal (wholeOf x)) 0) 14 (heldAt p journal (wholeOf x)))
   unfolding returning
   alone-returning x size c =
-      rw size (first-check (heldAt p journal (shown x)) (x .state .used) _ (λ z h. c (record { alone = refl; passes = z; records = h })))
+      rw size (first-check (heldAt p journal (wholeOf x)) (x .state .used) _ (λ z h. c (record { alone = refl; passes = z; records = h })))
 
-  alone-same : (x : Machine) → Good x [] → (Behind p journal (trailOf x []) → ⊥) → Same (backed p x) (dropped p journal (shown x) [])
+  alone-same : (x : Machine) → Good x [] → (Behind p journal (trailOf x []) → ⊥) → Same (backed p x) (dropped p journal (wholeOf x) [])
   unfolding backed
-  alone-same x g c = rw (alone-returning x (g .size) c) (here x [] 0 (cond (eqb (heldAt p journal (shown x)) 0) 14 (heldAt p journal (shown x))) g)
+  alone-same x g c = rw (alone-returning x (g .size) c) (here x [] 0 (cond (eqb (heldAt p journal (wholeOf x)) 0) 14 (heldAt p journal (wholeOf x))) g)
 
   -- a back step with an entry before the last
-  dropped-same : (x : Machine) (e : Entry) (es : List Entry) → Good x (e ∷ es) → Same (backed p x) (dropped p journal (shown x) (e ∷ es))
+  dropped-same : (x : Machine) (e : Entry) (es : List Entry) → Good x (e ∷ es) → Same (backed p x) (dropped p journal (wholeOf x) (e ∷ es))
   unfolding backed Walk
   dropped-same x e es g =
       let w = g .walk in
@@ -130,22 +132,22 @@ module _ (d p : List ℕ) (journal base : ℕ) where
         };
       })
 
-  back-same : (x : Machine) (es : List Entry) → Good x es → (Behind p journal (trailOf x es) → ⊥) → Same (backed p x) (dropped p journal (shown x) es)
+  back-same : (x : Machine) (es : List Entry) → Good x es → (Behind p journal (trailOf x es) → ⊥) → Same (backed p x) (dropped p journal (wholeOf x) es)
   back-same x [] g c = alone-same x g c
   back-same x (e ∷ es) g c = dropped-same x e es g
 
   pub call-same : (c : Call) (x : Machine) (es : List Entry) → Good x es → Covered d p journal c (trailOf x es) → Same (called d p c x) (traced d p journal c (trailOf x es))
-  unfolding called traced stepped ran
+  unfolding called traced stepTraced stepped ran
   call-same step x es g v = onward-same x es g (λ y. outcome y 0 0) (λ u. outcome u 0 0) (λ y fs h. here y fs 0 0 h)
   call-same (run n) x es g v =
-      rw (g .size)
-      (admitted-same (entryStop (length d) (length p) (x .state) (length (x .memory)) journal) x es g _ _ (repeated-same n x es g))
+      rw (g .size, run-repeats d p journal n (trailOf x es))
+      (admitted-same (entryStop (length d) (length p) (x .state .registers) (x .state .used) (length (x .memory)) journal) x es g _ _ (repeated-same n x es g))
   call-same back x es g v = back-same x es g v
 
   -- a list of calls from x and from a trail
   pub record From (cs : List Call) (x : Machine) (t : Trail) : Type 0 where
     pub answers : replies (called d p) cs x ≡ replies (traced d p journal) cs t
-    pub last : shown (standing (called d p) cs x) ≡ standing (traced d p journal) cs t .last
+    pub last : wholeOf (standing (called d p) cs x) ≡ standing (traced d p journal) cs t .last
     pub good : Good (standing (called d p) cs x) (standing (traced d p journal) cs t .earlier)
 
   pub follow : (cs : List Call) (x : Machine) (es : List Entry) → Good x es → AllCovered d p journal cs (trailOf x es) → From cs x (trailOf x es)
@@ -183,7 +185,7 @@ module _ (d p : List ℕ) (cs : List Call) (x : Machine) (typed : Typed (x .memo
   walked : Walk d p (length (x .journal)) (machineAfter d p cs x .journal) (trailAfter d p cs x .last) (trailAfter d p cs x .earlier)
   walked = subst (λ (z : Entry). Walk d p (length (x .journal)) (machineAfter d p cs x .journal) z (trailAfter d p cs x .earlier)) (from .last) (from .good .walk)
 
-  begun : first (trailAfter d p cs x .last) (trailAfter d p cs x .earlier) ≡ shown x
+  begun : first (trailAfter d p cs x .last) (trailAfter d p cs x .earlier) ≡ wholeOf x
   unfolding first
   begun = begins d p (length (x .journal)) cs (startOf x)
 
@@ -210,9 +212,12 @@ pub as-trail : (d p : List ℕ) (x : Machine) (cs : List Call) → Typed (x .mem
 as-trail d p x cs t v =
     let f = from d p cs x t v in
     let n = stepsAfter d p cs x in
+    let said = counted-said d p (length (x .journal)) cs (startOf x) in
     record {
       answers = f .answers;
       last = f .last;
+      enough = rw (f .answers) (omega (arith, said));
+      count = rw (f .answers) (omega (arith, said));
       steps = same-entries d p cs x t v;
       taken = from d p (forwards n) x t (steps-covered d p (length (x .journal)) n (startOf x)) .answers ∙ same-taken d p cs x t v;
       used = f .good .used;
@@ -220,18 +225,18 @@ as-trail d p x cs t v =
 
 -- the start alone decides what is left out: where no step stands, the last entry is the start
 module _ (d p : List ℕ) (x : Machine) (start : Behind p (length (x .journal)) (startOf x) → ⊥) where
-  back-covered : (e : Entry) (es : List Entry) → first e es ≡ shown x → Behind p (length (x .journal)) (trail e es) → ⊥
+  back-covered : (e : Entry) (es : List Entry) → first e es ≡ wholeOf x → Behind p (length (x .journal)) (trail e es) → ⊥
   unfolding first
   back-covered e [] h b =
       start (record { alone = refl; passes = rw (sym h) (b .passes); records = rw (sym h) (b .records) })
   back-covered e (y ∷ ys) h b = let z : _≡_ {A = ℕ} 0 1 = let q = b .alone in cc in omega arith
 
-  call-covered : (c : Call) (t : Trail) → first (t .last) (t .earlier) ≡ shown x → Covered d p (length (x .journal)) c t
+  call-covered : (c : Call) (t : Trail) → first (t .last) (t .earlier) ≡ wholeOf x → Covered d p (length (x .journal)) c t
   call-covered step t h = tt
   call-covered (run n) t h = tt
   call-covered back t h = back-covered (t .last) (t .earlier) h
 
-  list-covered : (cs : List Call) (t : Trail) → first (t .last) (t .earlier) ≡ shown x → AllCovered d p (length (x .journal)) cs t
+  list-covered : (cs : List Call) (t : Trail) → first (t .last) (t .earlier) ≡ wholeOf x → AllCovered d p (length (x .journal)) cs t
   unfolding AllCovered
   list-covered [] t h = tt
   list-covered (c ∷ cs) t h =

@@ -5,17 +5,17 @@ use mathlib.Core.List.{List}
 use lib.ListN.{length}
 use native.Mathlib.Omega.{arith}
 use Rattle.hexfloat.specs.Answer.{gives}
 use Rattle.machine.specs.declared.verdict.Effect.{Effect}
 use Rattle.machine.specs.Journal.{encoded}
 use Rattle.machine.specs.Machine.{Machine, beforeOf}
 use Rattle.machine.specs.Step.{verdictOf}
-use Rattle.machine.specs.Theorems.{Typed, shown, OneRecord}
-use Rattle.machine.proofs.Links.{Kept, back-new, saved-new}
-use Rattle.machine.proofs.Records.{written-length, written-other}
+use Rattle.conditions.specs.Theorems.{Typed, wholeOf, OneRecord}
+use Rattle.conditions.proofs.Links.{Kept, back-new, saved-new}
+use Rattle.conditions.proofs.Records.{written-length, written-other}
 
 pub one-record : (d p : List ℕ) (x : Machine) (e : Effect) → Typed (x .memory) → verdictOf d p x ≡ gives e → OneRecord p x e
 one-record d p x e typed t =
-    let kept : Kept (shown x) = record { halfwords = typed .halfword } in
+    let kept : Kept (wholeOf x) = record { halfwords = typed .halfword } in
     let words = encoded (beforeOf (x .state .registers) (x .memory) e) in
     record {
       used = refl;

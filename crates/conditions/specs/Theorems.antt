@@ -6,26 +6,27 @@ use mathlib.Core.List.{List, [], _∷_, _++_}
 use mathlib.Core.Bool.{true}
 use lib.ListN.{length, getD, replicate}
 use Rattle.hexfloat.specs.Answer.{gives}
 use Rattle.machine.specs.declared.verdict.Effect.{Effect}
 use Rattle.machine.specs.Back.{backed}
-use Rattle.machine.specs.Journal.{recordAt, encoded}
+use Rattle.machine.specs.declared.journal.Record.{Record}
+use Rattle.machine.specs.Journal.{recordAt, encoded, decoded, Recordable}
 use Rattle.machine.specs.Machine.{Machine, machine, beforeOf, committed}
 use Rattle.machine.specs.Protect.{isProtected}
 use Rattle.machine.specs.Run.{ran}
 use Rattle.machine.specs.Step.{Outcome, outcome, verdictOf, stepped}
-use Rattle.machine.specs.Trail.{Call, step, back, Entry, entry, Trail, trail, Reply, traced, called, standing, replies, Behind, AllCovered}
+use Rattle.conditions.specs.Trail.{Call, step, back, Entry, entry, Trail, trail, Reply, traced, called, standing, replies, stepsSaid, backsSaid, countSaid, Behind, AllCovered}
 
 -- what memory's type says: a halfword has 16 bits
 pub record Typed (memory : List ℕ) : Type 0 where
   pub halfword : (i : ℕ) → getD memory i 0 < 65536
 
 -- the machine's state with its memory
-abbrev pub shown : Machine → Entry
-shown x = entry (x .state) (x .memory)
+abbrev pub wholeOf : Machine → Entry
+wholeOf x = entry (x .state) (x .memory)
 
 -- the trail with the start alone
 abbrev pub startOf : Machine → Trail
-startOf x = trail (shown x) []
+startOf x = trail (wholeOf x) []
 
 -- what stands after the calls: the machine, and the trail, which is fed the journal's length and no word of it
 abbrev pub machineAfter : List ℕ → List ℕ → List Call → Machine → Machine
@@ -34,7 +35,7 @@ machineAfter d p cs x = standing (called d p) cs x
 abbrev pub trailAfter : List ℕ → List ℕ → List Call → Machine → Trail
 trailAfter d p cs x = standing (traced d p (length (x .journal))) cs (startOf x)
 
--- n: the entries less one
+-- the entries less one
 abbrev pub stepsAfter : List ℕ → List ℕ → List Call → Machine → ℕ
 stepsAfter d p cs x = length (trailAfter d p cs x .earlier)
 
@@ -42,39 +43,44 @@ stepsAfter d p cs x = length (trailAfter d p cs x .earlier)
 abbrev pub times : List ℕ → List ℕ → ℕ → Call → Machine → Machine
 times d p k c x = machineAfter d p (replicate k c) x
 
-abbrev pub reply : ℕ → ℕ → Reply
-reply taken stop = record { taken = taken; stop = stop }
+abbrev pub answer : ℕ → ℕ → Reply
+answer taken stop = record { taken = taken; stop = stop }
 
 -- no call of the list is the one that is left out
 abbrev pub Included : List ℕ → List ℕ → Machine → List Call → Type 0
 Included d p x cs = AllCovered d p (length (x .journal)) cs (startOf x)
 
--- Condition 3, a single claim about the list: each answer is the trail's; state and memory are the last entry; the entries are those of n steps
--- from the start, each of them taken; the used count has gone up by n.
+-- Condition 3, a single claim about the list: each answer is the trail's; state and memory are the last entry; n, the steps answered as taken and
+-- the counts that runs report less the back steps not refused, is the entries less one; the entries are those of n steps from the start, each of
+-- them taken; the used count has gone up by n.
 pub record AsTrail (d p : List ℕ) (x : Machine) (cs : List Call) : Type 0 where
   pub answers : replies (called d p) cs x ≡ replies (traced d p (length (x .journal))) cs (startOf x)
-  pub last : shown (machineAfter d p cs x) ≡ trailAfter d p cs x .last
+  pub last : wholeOf (machineAfter d p cs x) ≡ trailAfter d p cs x .last
+  pub enough : backsSaid cs (replies (called d p) cs x) ≤ stepsSaid cs (replies (called d p) cs x)
+  pub count : countSaid cs (replies (called d p) cs x) ≡ stepsAfter d p cs x
   pub steps : trailAfter d p cs x ≡ trailAfter d p (replicate (stepsAfter d p cs x) step) x
-  pub taken : replies (called d p) (replicate (stepsAfter d p cs x) step) x ≡ replicate (stepsAfter d p cs x) (reply 1 0)
+  pub taken : replies (called d p) (replicate (stepsAfter d p cs x) step) x ≡ replicate (stepsAfter d p cs x) (answer 1 0)
   pub used : machineAfter d p cs x .state .used ≡ x .state .used + stepsAfter d p cs x
 
 -- k back steps find the state and memory after the first n - k steps, and k steps forward again find what stood after all n; none is refused.
 pub record BackAndForth (d p : List ℕ) (x : Machine) (cs : List Call) (k : ℕ) : Type 0 where
-  pub backs : replies (called d p) (replicate k back) (machineAfter d p cs x) ≡ replicate k (reply 0 0)
-  pub found : shown (times d p k back (machineAfter d p cs x)) ≡ shown (times d p (stepsAfter d p cs x - k) step x)
-  pub steps : replies (called d p) (replicate k step) (times d p k back (machineAfter d p cs x)) ≡ replicate k (reply 1 0)
-  pub again : shown (times d p k step (times d p k back (machineAfter d p cs x))) ≡ shown (machineAfter d p cs x)
+  pub backs : replies (called d p) (replicate k back) (machineAfter d p cs x) ≡ replicate k (answer 0 0)
+  pub found : wholeOf (times d p k back (machineAfter d p cs x)) ≡ wholeOf (times d p (stepsAfter d p cs x - k) step x)
+  pub steps : replies (called d p) (replicate k step) (times d p k back (machineAfter d p cs x)) ≡ replicate k (answer 1 0)
+  pub again : wholeOf (times d p k step (times d p k back (machineAfter d p cs x))) ≡ wholeOf (machineAfter d p cs x)
 
 -- A back step is refused exactly when n is 0 before it.
 pub record RefusedAtStart (d p : List ℕ) (x : Machine) (cs : List Call) : Type 0 where
   pub refused : stepsAfter d p cs x ≡ 0 → called d p back (machineAfter d p cs x) .stop ≡ 0 → ⊥
   pub taken : 0 < stepsAfter d p cs x → called d p back (machineAfter d p cs x) .stop ≡ 0
 
--- A run keeps exactly the steps that it reports, each of them taken and no more than its limit; where it stops, it stops as the next step would.
+-- A run keeps exactly the steps that it reports, each of them taken and no more than its limit; without a stop they are its limit, and where it
+-- stops, it stops as the next step would.
 pub record KeepsSteps (d p : List ℕ) (x : Machine) (limit : ℕ) (r : Outcome Machine) : Type 0 where
   pub kept : r .after ≡ times d p (r .taken) step x
-  pub taken : replies (called d p) (replicate (r .taken) step) x ≡ replicate (r .taken) (reply 1 0)
+  pub taken : replies (called d p) (replicate (r .taken) step) x ≡ replicate (r .taken) (answer 1 0)
   pub within : r .taken ≤ limit
+  pub whole : r .stop ≡ 0 → r .taken ≡ limit
   pub stopped : (r .stop ≡ 0 → ⊥) → stepped d p (r .after) ≡ outcome (r .after) 0 (r .stop)
 
 -- Condition 1: a refused call leaves state, memory and journal as they were; a run, as the steps that it reports left them.
@@ -82,6 +88,26 @@ pub record LeavesAll (d p : List ℕ) (x : Machine) : Type 0 where
   pub step : (stepped d p x .stop ≡ 0 → ⊥) → stepped d p x .after ≡ x
   pub back : (backed p x .stop ≡ 0 → ⊥) → backed p x .after ≡ x
   pub run : (limit : ℕ) → KeepsSteps d p x limit (ran d p limit x)
+
+-- the numbers that a back step answers
+pub data BackNumber : ℕ → Type 0 where
+  taken : BackNumber 0
+  buffers : BackNumber 2
+  state : BackNumber 3
+  nothing : BackNumber 14
+  broken : BackNumber 15
+
+-- Condition 1: every call answers 0 or one of the numbers of document 01: a step and a run 1 to 13, a back step 2, 3, 14 or 15.
+pub record OneOfTheNumbers (d p : List ℕ) (x : Machine) : Type 0 where
+  pub step : stepped d p x .stop ≤ 13
+  pub run : (limit : ℕ) → ran d p limit x .stop ≤ 13
+  pub back : BackNumber (backed p x .stop)
+
+-- A record is read exactly if it is of the form: it is the record of what it gives, with condition code 0, 1 or 3, mask 0 or 1, a 16-bit pointer and
+-- registers below 8.
+pub record ReadByForm (q : Record) (e : Effect) : Type 0 where
+  pub formed : decoded q ≡ gives e → (q ≡ encoded e) × Recordable e
+  pub read : q ≡ encoded e → Recordable e → decoded q ≡ gives e
 
 -- 0 is the answer of a call that was taken and of no other: a step then counts as one and the used count goes up by one, or down by one at a
 -- back step.
@@ -112,5 +138,7 @@ pub record Theorems : Type 0 where
   pub protected :
       (d p : List ℕ) (x : Machine) (cs : List Call) (a : ℕ) → isProtected p a ≡ true → getD (machineAfter d p cs x .memory) a 0 ≡ getD (x .memory) a 0
   pub leaves-all : (d p : List ℕ) (x : Machine) → LeavesAll d p x
+  pub one-of-the-numbers : (d p : List ℕ) (x : Machine) → OneOfTheNumbers d p x
+  pub read-by-form : (q : Record) (e : Effect) → ReadByForm q e
   pub zero-is-taken : (d p : List ℕ) (x : Machine) → ZeroIsTaken d p x
   pub one-record : (d p : List ℕ) (x : Machine) (e : Effect) → Typed (x .memory) → verdictOf d p x ≡ gives e → OneRecord p x e

@@ -1,0 +1,14 @@
+pub mod Calls
+pub mod Counted
+pub mod Entries
+pub mod Leaves
+pub mod Links
+pub mod Numbers
+pub mod Protected
+pub mod Records
+pub mod Repeats
+pub mod Restore
+pub mod Return
+pub mod Theorems
+pub mod Trail
+pub mod Writes

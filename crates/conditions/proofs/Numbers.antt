@@ -1,0 +1,135 @@
+-- The numbers that calls answer: a step and a run 0 to 13, a back step 0, 2, 3, 14 or 15; and 0 is a call that was taken.
+use Prim.Native.Nat.{ℕ, _+_, _-_, _/_, _^_, _≤_}
+use mathlib.Core.Path.{_≡_, refl, ap, subst}
+use mathlib.Core.List.{List}
+use mathlib.Core.Bool.{Bool, true, false, not}
+use lib.Dec.{eqb, leb}
+use lib.ListN.{length}
+use native.Mathlib.Omega.{arith}
+use borrow.Author.Tests.{eqb-true, eqb-false}
+use Rattle.hexfloat.specs.Answer.{Answer, gives, stops}
+use Rattle.machine.specs.declared.change.Change.{Change}
+use Rattle.machine.specs.declared.journal.Record.{Record}
+use Rattle.machine.specs.declared.state.State.{State}
+use Rattle.machine.specs.declared.verdict.Effect.{Effect}
+use Rattle.machine.specs.Back.{allowed, returning, backedBy, backed}
+use Rattle.machine.specs.Change.{placed, guarded}
+use Rattle.machine.specs.Decide.{heldStop}
+use Rattle.machine.specs.Journal.{recordAt, inRegister, changeFrom, effectFrom, decoded}
+use Rattle.machine.specs.Machine.{Machine, committed}
+use Rattle.machine.specs.Run.{ran}
+use Rattle.machine.specs.Status.{conditionFormed, unpacked}
+use Rattle.machine.specs.Step.{Outcome, outcome, onward, verdictOf, stepped}
+use Rattle.machine.proofs.Answers.{StopsBy, provided-by, checked-by, mapped-by, then-by, cond-by}
+use Rattle.machine.proofs.Checks.{held-number}
+use Rattle.machine.proofs.Refusals.{StepNumber, decided-by}
+use Rattle.machine.proofs.Returning.{returning-gives}
+use Rattle.conditions.specs.Theorems.{BackNumber, taken, buffers, state, nothing, broken, OneOfTheNumbers, ZeroIsTaken}
+use Rattle.conditions.proofs.Leaves.{leaves-all}
+
+-- a back step's stops
+pub record BackStop (n : ℕ) : Type 0 where
+  pub some : 1 ≤ n
+  pub number : BackNumber n
+
+breaks : BackStop 15
+breaks = record { some = omega arith; number = broken }
+
+register-by : (r unused : ℕ) (ch : Change) → StopsBy BackStop (inRegister r unused ch)
+register-by r unused ch = provided-by BackStop (leb r 7) 15 _ breaks (provided-by BackStop (eqb unused 0) 15 (gives ch) breaks tt)
+
+change-by : (kind place left right : ℕ) → StopsBy BackStop (changeFrom kind place left right)
+unfolding changeFrom
+change-by kind place left right =
+    cond-by BackStop (eqb kind 0) _ _
+    (provided-by BackStop (eqb place 0) 15 _ breaks
+    (provided-by BackStop (eqb left 0) 15 _ breaks
+    (provided-by BackStop (eqb right 0) 15 (gives Change.Nothing) breaks tt)))
+    (cond-by BackStop (eqb kind 1) _ _ (register-by place right (Change.Float place left))
+    (cond-by BackStop (eqb kind 2) _ _ (register-by place 0 (Change.Pair place left right))
+    (cond-by BackStop (eqb kind 3) _ _ (register-by place right (Change.General place left))
+    (cond-by BackStop (eqb kind 4) _ _ (provided-by BackStop (eqb right 0) 15 (gives (Change.Two place left)) breaks tt)
+    (cond-by BackStop (eqb kind 5) (gives (Change.Four place left right)) (stops 15) tt breaks)))))
+
+decoded-by : (q : Record) → StopsBy BackStop (decoded q)
+unfolding decoded
+decoded-by q =
+    provided-by BackStop (conditionFormed (unpacked (q .head) .condition)) 15 _ breaks
+    (mapped-by BackStop (effectFrom (unpacked (q .head))) (changeFrom (q .head / 2 ^ 19) (q .place) (q .left) (q .right)) (change-by _ _ _ _))
+
+allowed-by : (e : Effect) (p : List ℕ) (memory : ℕ) → StopsBy BackStop (allowed e p memory)
+unfolding allowed
+allowed-by e p memory =
+    provided-by BackStop (placed (e .change) memory) 15 _ breaks (provided-by BackStop (not (guarded p (e .change))) 15 (gives e) breaks tt)
+
+returning-by : (p : List ℕ) (s : State) (memory : ℕ) (j : List ℕ) → StopsBy BackStop (returning p s memory j)
+unfolding returning
+returning-by p s memory j =
+    checked-by BackStop (heldStop (length p) (s .registers) (s .used) memory (length j)) _
+    (held-number (length p) (s .registers) (s .used) memory (length j) (λ n. (n ≡ 0 → ⊥) → BackStop n) (λ z. absurd (z refl))
+        (λ z. record { some = omega arith; number = buffers }) (λ z. record { some = omega arith; number = state }))
+    (provided-by BackStop (not (eqb (s .used) 0)) 14 _ (record { some = omega arith; number = nothing })
+    (then-by BackStop (decoded (recordAt j (s .used - 1))) (λ e. allowed e p memory) (decoded-by _) (λ e. allowed-by e p memory)))
+
+module _ (x : Machine) where
+  -- a step's outcome
+  abbrev after : Answer Effect → Outcome Machine
+  after a = onward a x (λ e. committed e x) (λ y. outcome y 0 0)
+
+  step-few : (a : Answer Effect) → StopsBy StepNumber a → after a .stop ≤ 13
+  step-few (stops k) s = s .most
+  step-few (gives e) s = omega arith
+
+  counts : (a : Answer Effect) → StopsBy StepNumber a → after a .stop ≡ 0 → after a .taken ≡ 1
+  counts (stops k) s h = absurd (omega (arith, s .some))
+  counts (gives e) s h = refl
+
+  up : (a : Answer Effect) → StopsBy StepNumber a → after a .stop ≡ 0 → after a .after .state .used ≡ x .state .used + 1
+  up (stops k) s h = absurd (omega (arith, s .some))
+  up (gives e) s h = refl
+
+  back-number : (a : Answer Effect) → StopsBy BackStop a → BackNumber (backedBy a x .stop)
+  back-number (stops k) s = s .number
+  back-number (gives e) s = taken
+
+  down :
+      (p : List ℕ) (a : Answer Effect) → returning p (x .state) (length (x .memory)) (x .journal) ≡ a → StopsBy BackStop a →
+      backedBy a x .stop ≡ 0 → backedBy a x .after .state .used + 1 ≡ x .state .used
+  down p (stops k) t s h = absurd (omega (arith, s .some))
+  down p (gives e) t s h = omega (arith, returning-gives p (length (x .memory)) (x .state) (x .journal) e t .used)
+
+module _ (d p : List ℕ) where
+  verdict-by : (x : Machine) → StopsBy StepNumber (verdictOf d p x)
+  verdict-by x = decided-by d p (x .state .registers) (x .state .used) (x .memory) (length (x .journal))
+
+  stepped-few : (x : Machine) → stepped d p x .stop ≤ 13
+  unfolding stepped
+  stepped-few x = step-few x (verdictOf d p x) (verdict-by x)
+
+  -- a run that stops, stops as the next step would
+  ran-few : (limit : ℕ) (x : Machine) → ran d p limit x .stop ≤ 13
+  ran-few limit x = cases (ran d p limit x) (λ z. leaves-all d p x .run limit .stopped z) (eqb (ran d p limit x .stop) 0) refl
+    where
+      cases : (r : Outcome Machine) → ((r .stop ≡ 0 → ⊥) → stepped d p (r .after) ≡ outcome (r .after) 0 (r .stop)) → (b : Bool) → eqb (r .stop) 0 ≡ b → r .stop ≤ 13
+      cases r stopped true e = omega (arith, eqb-true (r .stop) 0 e)
+      cases r stopped false e =
+          let same = ap (λ (o : Outcome Machine). o .stop) (stopped (eqb-false (r .stop) 0 e)) in
+          subst (λ (k : ℕ). k ≤ 13) same (stepped-few (r .after))
+
+  pub one-of-the-numbers : (x : Machine) → OneOfTheNumbers d p x
+  unfolding backed
+  one-of-the-numbers x = record {
+    step = stepped-few x;
+    run = λ limit. ran-few limit x;
+    back =
+        back-number x (returning p (x .state) (length (x .memory)) (x .journal)) (returning-by p (x .state) (length (x .memory)) (x .journal));
+  }
+
+  pub zero-is-taken : (x : Machine) → ZeroIsTaken d p x
+  unfolding stepped backed
+  zero-is-taken x = record {
+    counts = counts x (verdictOf d p x) (verdict-by x);
+    step = up x (verdictOf d p x) (verdict-by x);
+    back =
+        down x p (returning p (x .state) (length (x .memory)) (x .journal)) refl (returning-by p (x .state) (length (x .memory)) (x .journal));
+  }

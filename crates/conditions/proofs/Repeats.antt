@@ -1,0 +1,37 @@
+-- The trail's run, made of its own single steps, is the recursion over verdicts that the machine's run has.
+use Prim.Native.Nat.{ℕ, zero, suc, _+_}
+use mathlib.Core.Path.{_≡_, refl}
+use mathlib.Core.List.{List}
+use mathlib.Core.Bool.{cond}
+use lib.Dec.{eqb}
+use native.Mathlib.Omega.{arith}
+use borrow.Author.Tests.{ne-eqb}
+use Rattle.hexfloat.specs.Answer.{Answer, gives, stops}
+use Rattle.machine.specs.declared.verdict.Effect.{Effect}
+use Rattle.machine.specs.Run.{repeated}
+use Rattle.machine.specs.Step.{Outcome, outcome, onward}
+use Rattle.machine.proofs.Answers.{StopsBy}
+use Rattle.machine.proofs.Refusals.{StepNumber, decided-by}
+use Rattle.conditions.specs.Trail.{Trail, extended, judgedLast, goOn, stepTraced, runTraced}
+
+module _ (d p : List ℕ) (journal : ℕ) where
+  -- a step's verdict on the trail stops by 1 to 13
+  pub judged-by : (t : Trail) → StopsBy StepNumber (judgedLast d p journal t)
+  judged-by t = decided-by d p (t .last .state .registers) (t .last .state .used) (t .last .memory) journal
+
+  abbrev pub repeatedLast : ℕ → Trail → Outcome Trail
+  repeatedLast n t = repeated (judgedLast d p journal) (λ u e. extended e u) n t
+
+  pub run-repeats : (n : ℕ) (t : Trail) → runTraced d p journal n t ≡ repeatedLast n t
+  unfolding runTraced repeated stepTraced
+  run-repeats zero t = refl
+  run-repeats (suc n) t = cases (judgedLast d p journal t) (judged-by t) (run-repeats n)
+    where
+      cases :
+          (a : Answer Effect) → StopsBy StepNumber a → ((u : Trail) → runTraced d p journal n u ≡ repeatedLast n u) →
+          goOn (onward a t (λ e. extended e t) (λ u. outcome u 0 0)) (runTraced d p journal n) ≡ onward a t (λ e. extended e t) (repeatedLast n)
+      cases (stops k) s rest = rw (ne-eqb k 0 (λ z. omega (arith, s .some)))
+      cases (gives e) s rest =
+          let r = repeatedLast n (extended e t) in
+          let sum : 0 + 1 + r .taken ≡ r .taken + 1 = omega arith in
+          rw (rest (extended e t), sum)
