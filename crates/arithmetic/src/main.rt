@@ -1,6 +1,6 @@
 // Runs hexfloat on a file of cases from standard input and writes what each gives.
 //
-// A case is a line of 38 bytes, `op mask a b`; an answer a line of 22, `words stop code`.
+// A case is a line of 38 bytes, `op mask a b`; an answer a line of 22, `words stop condition`.
 mod answer;
 mod case;
 mod text;

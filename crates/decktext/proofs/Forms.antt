@@ -12,16 +12,19 @@ use Rattle.hexfloat.specs.Answer.{Answer, gives, stops}
 use Rattle.machine.specs.declared.order.Order.{Order}
 use Rattle.machine.specs.Order.{legalOf}
 use Rattle.machine.specs.Says.{provided, andThen}
-use Rattle.machine.proofs.Answers.{gives-inj, never, provided-gives, Real}
+use Rattle.machine.proofs.Answers.{gives-inj, never, provided-gives}
+use Rattle.decktext.specs.declared.fault.Fault.{Fault}
+use Rattle.decktext.specs.declared.given.Given.{Given as GivenLine}
 use Rattle.decktext.specs.declared.line.Judged.{Judged}
+use Rattle.decktext.specs.Fault.{faultNumber}
 use Rattle.decktext.specs.Text.{same, valuesOf}
 use Rattle.decktext.specs.Value.{codeOf, decimalOf, protectOf, wordOf}
 use Rattle.decktext.specs.Format.{deckHeading, storageHeading, passes, legal, orderFrom, orderOf, Halfword, halfwordFrom, halfwordOf}
 use Rattle.decktext.specs.Read.{Wanted, heading, order, storage, halfword, Progress, Given, headed, ordered, parted, stored, orderFits, halfwordFits, lineAs}
 use Rattle.decktext.specs.Walk.{Storable, valueCount, inPlace, valueAs, orderFromValues, halfwordFromValues, judgedAs, faultOf, saysJudged}
 use Rattle.decktext.proofs.Same.{same-none, same-length}
-use Rattle.decktext.proofs.Answers.{Only16, and-then-gives, only-code, only-decimal, only-protect, only-word, protect-small}
-use Rattle.decktext.proofs.Parsed.{Kind, parsed, Placed, wrong-count}
+use Rattle.decktext.proofs.Answers.{Is16, Only16, and-then-gives, only-provided, only-and-then, only-cond, only-code, only-decimal, only-protect, only-word, protect-small}
+use Rattle.decktext.proofs.Parsed.{Kind, parsed, Placed, parsed-only, wrong-count}
 
 -- ---- the values' places
 
@@ -35,20 +38,16 @@ inner-by false a x h = refl
 inner-place : (i last : ℕ) (a : Answer ℕ) (x : ℕ) → inPlace i false last a ≡ gives x → i + 1 ≡ last + 1 → ⊥
 inner-place i last a x h e = eqb-false i last (inner-by (eqb i last) a x h) (omega arith)
 
-either : (t : Bool) (a b : Answer ℕ) → Only16 a → Only16 b → Only16 (cond t a b)
-either true a b p q = p
-either false a b p q = q
-
 only-place : (i : ℕ) (ends : Bool) (last : ℕ) (a : Answer ℕ) → Only16 a → Only16 (inPlace i ends last a)
-only-place i true last a o = either (eqb i last) a (stops 16) o refl
-only-place i false last a o = either (eqb i last) (stops 16) a refl o
+only-place i true last a o = only-cond Is16 (eqb i last) a (stops 16) o refl
+only-place i false last a o = only-cond Is16 (eqb i last) (stops 16) a refl o
 
 order-placed : Placed (valueAs order) 4
 unfolding valueAs
 order-placed = record {
   last = λ i v x h. last-place i 3 (cond (eqb i 0) (codeOf v) (decimalOf v)) x h;
   inner = λ i v x h. inner-place i 3 (cond (eqb i 0) (codeOf v) (decimalOf v)) x h;
-  only = λ i b v. only-place i b 3 (cond (eqb i 0) (codeOf v) (decimalOf v)) (either (eqb i 0) (codeOf v) (decimalOf v) (only-code v) (only-decimal v));
+  only = λ i b v. only-place i b 3 (cond (eqb i 0) (codeOf v) (decimalOf v)) (only-cond Is16 (eqb i 0) (codeOf v) (decimalOf v) (only-code v) (only-decimal v));
 }
 
 halfword-placed : Placed (valueAs halfword) 3
@@ -58,7 +57,7 @@ halfword-placed = record {
   inner = λ i v x h. inner-place i 2 (cond (eqb i 0) (decimalOf v) (cond (eqb i 1) (protectOf v) (wordOf v))) x h;
   only = λ i b v.
       only-place i b 2 (cond (eqb i 0) (decimalOf v) (cond (eqb i 1) (protectOf v) (wordOf v)))
-      (either (eqb i 0) (decimalOf v) (cond (eqb i 1) (protectOf v) (wordOf v)) (only-decimal v) (either (eqb i 1) (protectOf v) (wordOf v) (only-protect v) (only-word v)));
+      (only-cond Is16 (eqb i 0) (decimalOf v) (cond (eqb i 1) (protectOf v) (wordOf v)) (only-decimal v) (only-cond Is16 (eqb i 1) (protectOf v) (wordOf v) (only-protect v) (only-word v)));
 }
 
 placed-by : (t : Bool) → 0 < cond t 0 4 → Placed (valueAs order) (cond t 0 4)
@@ -119,6 +118,20 @@ halfword-parsed (a ∷ []) = wrong halfword-placed (a ∷ []) (λ e. omega arith
 halfword-parsed (a ∷ p ∷ []) = wrong halfword-placed (a ∷ p ∷ []) (λ e. omega arith) (λ xs. gives (halfwordFromValues xs))
 halfword-parsed (a ∷ p ∷ w ∷ []) = three (decimalOf a) (protectOf p) (wordOf w) (λ xs. gives (halfwordFromValues xs))
 halfword-parsed (a ∷ p ∷ w ∷ x ∷ vs) = wrong halfword-placed (a ∷ p ∷ w ∷ x ∷ vs) (λ e. omega arith) (λ xs. gives (halfwordFromValues xs))
+
+-- every fault of a line's form is a 16
+pub order-only : (line : List ℕ) → Only16 (orderOf line)
+unfolding orderOf
+order-only line =
+    rw (order-parsed (valuesOf line))
+    (only-and-then Is16 (parsed (valueAs order) 0 (valuesOf line)) (λ xs. legal (orderFromValues xs)) (parsed-only order-placed 0 (valuesOf line)) (λ xs.
+    only-provided Is16 (passes (legalOf (orderFromValues xs))) 16 (gives (orderFromValues xs)) refl tt))
+
+pub halfword-only : (line : List ℕ) → Only16 (halfwordOf line)
+unfolding halfwordOf
+halfword-only line =
+    rw (halfword-parsed (valuesOf line))
+    (only-and-then Is16 (parsed (valueAs halfword) 0 (valuesOf line)) (λ xs. gives (halfwordFromValues xs)) (parsed-only halfword-placed 0 (valuesOf line)) (λ xs. tt))
 
 -- ---- a line
 
@@ -236,31 +249,6 @@ sound-rises halfword p h s = s .0
 pub fits : (w : Wanted) (p : Progress) (line : List ℕ) (g : Given) → lineAs w p line ≡ gives g → Fits p g
 fits w p line g h = sound-fits w p g (sound w p line g h)
 
--- ---- a fault has a number
-
-real-provided : {A : Type 0} (ok : Bool) (n : ℕ) (a : Answer A) → (n ≡ 0 → ⊥) → Real a → Real (provided ok n a)
-real-provided true n a h r = r
-real-provided false n a h r = h
-
-real-order : (p : Progress) (o : Order) (t : Bool) → Real (andThen (provided t 16 (gives o)) (orderFits p))
-real-order p o true = real-provided (leb (p .count * 4 + 4) (length (p .held .cells))) 17 (gives (ordered o)) (λ e. omega arith) tt
-real-order p o false = λ e. omega arith
-
-real-line : (p : Progress) (o : Order) (t : Bool) → Real (cond t (gives parted) (andThen (legal o) (orderFits p)))
-real-line p o true = tt
-real-line p o false = real-order p o (passes (legalOf o))
-
-pub real : (w : Wanted) (p : Progress) (line v : List ℕ) → Real (judgedAs w p line v)
-unfolding judgedAs
-real heading p line v = real-provided (same line deckHeading) 16 (gives headed) (λ e. omega arith) tt
-real order p line v = real-line p (orderFromValues v) (same line [])
-real storage p line v = real-provided (same line storageHeading) 16 (gives headed) (λ e. omega arith) tt
-real halfword p line v =
-    let h = halfwordFromValues v in
-    real-provided (leb (p .least) (h .at)) 16 _ (λ e. omega arith)
-    (real-provided (ltb (h .at) (length (p .held .memory))) 17 _ (λ e. omega arith)
-    (real-provided (ltb (h .at) (length (p .held .protect))) 17 (gives (stored h)) (λ e. omega arith) tt))
-
 -- ---- the count of values, by another name
 
 pub placed-at : (w : Wanted) (bytes n : ℕ) → n ≡ valueCount w bytes → 0 < n → Placed (valueAs w) n
@@ -271,8 +259,13 @@ values-at w line n v e h = subst (λ (m : ℕ). 0 < m → parsed (valueAs w) 0 (
 
 -- ---- a judged line
 
-pub by-number : (j : Judged) (n m : ℕ) → j ≡ Judged.Faulty m → n ≡ faultOf j → saysJudged j ≡ stops n
-by-number j n m e f = let g : n ≡ m = f ∙ ap faultOf e in ap saysJudged e ∙ ap (λ (x : ℕ). stops x) (sym g)
+-- the fault of a line that gives nothing has its number
+pub by-fault : (j : Judged) → ((g : GivenLine) → j ≡ Judged.Gives g → ⊥) → saysJudged j ≡ stops (faultNumber (faultOf j))
+by-fault (Judged.Gives g) h = absurd (h g refl)
+by-fault Judged.Malformed h = refl
+by-fault Judged.NoRoom h = refl
 
-pub real-fault : (w : Wanted) (p : Progress) (line v : List ℕ) {n : ℕ} → stops n ≡ judgedAs w p line v → n ≡ 0 → ⊥
-real-fault w p line v h = rw (← h) at (real w p line v)
+pub some-fault : (j : Judged) → ((g : GivenLine) → j ≡ Judged.Gives g → ⊥) → faultOf j ≡ Fault.Nothing → ⊥
+some-fault (Judged.Gives g) h e = h g refl
+some-fault Judged.Malformed h e = let z : _≡_ {A = ℕ} 0 1 = cc in omega arith
+some-fault Judged.NoRoom h e = let z : _≡_ {A = ℕ} 0 1 = cc in omega arith

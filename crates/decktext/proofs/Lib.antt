@@ -1,5 +1,7 @@
 -- The laws of the reader.
 mod Same
+mod Tags
+mod Held
 mod Digits
 mod Names
 mod Decimals
@@ -11,4 +13,5 @@ mod Walking
 mod Readings
 mod Passing
 pub mod Laws
+mod Numbers
 pub mod Theorems

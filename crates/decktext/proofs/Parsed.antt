@@ -14,7 +14,7 @@ use Rattle.machine.specs.Says.{andThen}
 use Rattle.machine.proofs.Answers.{never}
 use Rattle.decktext.specs.Text.{valuesOf}
 use Rattle.decktext.specs.Walk.{Stretch}
-use Rattle.decktext.proofs.Answers.{Only16, only-refused, only-and-then, and-then-gives}
+use Rattle.decktext.proofs.Answers.{Is16, Only16, only-refused, only-and-then, and-then-gives}
 use Rattle.decktext.proofs.Lines.{part, value-ended, value-last, some-value}
 
 -- a value by its place, and whether it ends the line
@@ -32,12 +32,12 @@ pub record Placed (k : Kind) (n : ℕ) : Type 0 where
   pub inner : (i : ℕ) (v : List ℕ) (x : ℕ) → k i false v ≡ gives x → i + 1 ≡ n → ⊥
   pub only : (i : ℕ) (b : Bool) (v : List ℕ) → Only16 (k i b v)
 
-parsed-only : {k : Kind} {n : ℕ} → Placed k n → (i : ℕ) (vs : List (List ℕ)) → Only16 (parsed k i vs)
+pub parsed-only : {k : Kind} {n : ℕ} → Placed k n → (i : ℕ) (vs : List (List ℕ)) → Only16 (parsed k i vs)
 parsed-only p i [] = refl
-parsed-only {k} p i (v ∷ []) = only-and-then (k i true v) (λ x. gives (x ∷ [])) (p .only i true v) (λ x. tt)
+parsed-only {k} p i (v ∷ []) = only-and-then Is16 (k i true v) (λ x. gives (x ∷ [])) (p .only i true v) (λ x. tt)
 parsed-only {k} p i (v ∷ w ∷ vs) =
-    only-and-then (k i false v) (λ x. andThen (parsed k (i + 1) (w ∷ vs)) (λ xs. gives (x ∷ xs))) (p .only i false v)
-    (λ x. only-and-then (parsed k (i + 1) (w ∷ vs)) (λ xs. gives (x ∷ xs)) (parsed-only p (i + 1) (w ∷ vs)) (λ xs. tt))
+    only-and-then Is16 (k i false v) (λ x. andThen (parsed k (i + 1) (w ∷ vs)) (λ xs. gives (x ∷ xs))) (p .only i false v)
+    (λ x. only-and-then Is16 (parsed k (i + 1) (w ∷ vs)) (λ xs. gives (x ∷ xs)) (parsed-only p (i + 1) (w ∷ vs)) (λ xs. tt))
 
 parsed-length : {k : Kind} {n : ℕ} → Placed k n → (i : ℕ) (vs : List (List ℕ)) (xs : List ℕ) → parsed k i vs ≡ gives xs → i + length vs ≡ n
 parsed-length p i [] xs h = never h

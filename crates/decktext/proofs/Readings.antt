@@ -18,13 +18,18 @@ pub within-limit : (t : List ℕ) (b : Buffers) → length t ≤ 32768 → readT
 unfolding readText
 within-limit t b l = rw (le-ltb 32768 (length t) l)
 
-settled-refused : (b : Buffers) (x : Read) (s : Said) (n k : ℕ) → s ≡ saidOf x → s ≡ refused n k → outcome b s ≡ settled b x
-settled-refused b (whole p) s n k e h = apart (sym e ∙ h)
-settled-refused b (faulty m j) s n k e h = ap (λ (z : Said). outcome b z) e
+-- what is said to be taken is
+pub says-taken : (r : Reading) {n : ℕ} → saysReading r ≡ taken n → r ≡ Reading.Taken n
+says-taken (Reading.Taken m) e = cc
+says-taken (Reading.Malformed l) e = apart (sym e)
+says-taken (Reading.NoRoom l) e = apart (sym e)
 
-pub refusal : {t : List ℕ} {b after : Buffers} {r : Reading} (n k : ℕ) → Walked t false b after r → length t ≤ 32768 → r ≡ Reading.Refused n k → outcome after (saysReading r) ≡ readText t b
-refusal {t} {b} {after} {r} n k w l e =
-    rw (w .kept refl, within-limit t b l) (settled-refused b (all t b) (saysReading r) n k (w .said) (ap saysReading e))
+settled-refused : (b : Buffers) (x : Read) (r : Reading) → saysReading r ≡ saidOf x → ((n : ℕ) → r ≡ Reading.Taken n → ⊥) → outcome b (saysReading r) ≡ settled b x
+settled-refused b (whole p) r e h = absurd (h (p .count) (says-taken r e))
+settled-refused b (faulty m j) r e h = ap (λ (z : Said). outcome b z) e
+
+pub refusal : {t : List ℕ} {b after : Buffers} {r : Reading} → Walked t false b after r → length t ≤ 32768 → ((n : ℕ) → r ≡ Reading.Taken n → ⊥) → outcome after (saysReading r) ≡ readText t b
+refusal {t} {b} {after} {r} w l h = rw (w .kept refl, within-limit t b l) (settled-refused b (all t b) r (w .said) h)
 
 settled-taken : {t : List ℕ} {b after : Buffers} {r : Reading} (x : Read) (n : ℕ) → all t b ≡ x → taken n ≡ saidOf x → Walked t true b after r → outcome after (saysReading r) ≡ settled b x
 settled-taken {r = r} (whole p) n e h w = rw (w .written refl p e, w .said, e)

@@ -13,6 +13,7 @@ use Rattle.decktext.specs.Theorems.{Through, FirstFault, Written, Reader
 use Rattle.decktext.proofs.Forms.{sound-fits}
 use Rattle.decktext.proofs.Laws.{accepted}
 use Rattle.decktext.proofs.Passing.{front, through, skip, first-fault, order-put, all-kept, Kept, line-sound, Counted, all-counted, order-wanted}
+use Rattle.decktext.proofs.Numbers.{numbered, counted}
 use Rattle.decktext.proofs.Readings.{apart, within-limit}
 use Rattle.decktext.proofs.Walking.{all}
 
@@ -81,4 +82,4 @@ written t b n h = record {
 }
 
 pub reader : Reader
-reader = record { refusal = refusal; accepted = written }
+reader = record { refusal = refusal; accepted = written; numbered = numbered; counted = counted }

@@ -5,13 +5,14 @@ use mathlib.Core.Bool.{Bool, true, false, cond}
 use mathlib.Core.List.{List}
 use native.Mathlib.Omega.{arith}
 use lib.ListN.{length, drop, length-set}
-use borrow.Author.Tests.{eq-eqb, ne-eqb}
 use Rattle.hexfloat.specs.Answer.{gives, stops}
 use Rattle.decktext.specs.declared.deck.Reading.{Reading}
 use Rattle.decktext.specs.declared.line.Progress.{Progress as Place}
 use Rattle.decktext.specs.declared.line.Sizes.{Sizes}
+use Rattle.decktext.specs.declared.fault.Fault.{Fault}
+use Rattle.decktext.specs.Fault.{faultNumber}
 use Rattle.decktext.specs.Text.{linesOf}
-use Rattle.decktext.specs.Read.{Buffers, saysReading, Wanted, heading, order, storage, halfword, Progress, start as begun, Given, headed, ordered, parted, stored, lineRead, bufferedWith, advanced, Read, whole, faulty, endRead, linesRead}
+use Rattle.decktext.specs.Read.{Buffers, refused, saysReading, Wanted, heading, order, storage, halfword, Progress, start as begun, Given, headed, ordered, parted, stored, lineRead, bufferedWith, advanced, Read, whole, faulty, endRead, linesRead}
 use Rattle.decktext.specs.Walk.{Stretch, Storable, wantedOf, progressOf, Sized, endSaid, concluded, saidOf, Walked}
 use Rattle.decktext.proofs.Forms.{fits}
 use Rattle.decktext.proofs.Lines.{part, line-ended, line-unended, no-line}
@@ -86,14 +87,15 @@ module _ {t : List ℕ} {b : Buffers} {s : Sizes} {writes : Bool} {p : Place} {a
   module _ {e : ℕ} (m : Stretch t at (length t) 10 e) where
     pub on : (l : e < length t) (g : Given) → lineRead (progressOf p (r .held)) (part at e t) ≡ gives g
         → (next : Place) → ((x : Buffers) → progressOf next (bufferedWith g (p .count) x) ≡ advanced g (progressOf p x))
+        → (to : ℕ) → to ≡ e + 1
         → (after : Buffers) → after ≡ cond writes (bufferedWith g (p .count) now) now
-        → Walking t b s writes next (e + 1) (line + 1) after
+        → Walking t b s writes next to (line + 1) after
     unfolding linesRead
-    on l g f next moved after put = record {
+    on l g f next moved to past after put = record {
       held = bufferedWith g (p .count) (r .held);
       sized = sized-with g (p .count) (r .held) s (r .sized);
       first = r .first;
-      rest = r .rest ∙ rw (line-ended m l, f, moved (r .held));
+      rest = r .rest ∙ rw (line-ended m l, f, moved (r .held), past);
       present = present-with writes g (p .count) (r .held) b now after (r .present) put;
       reach = omega arith;
       lines = omega (arith, r .lines, m .low);
@@ -112,7 +114,7 @@ module _ {t : List ℕ} {b : Buffers} {s : Sizes} {writes : Bool} {p : Place} {a
 
 -- ---- where the walk is left
 
-pub record Left (t : List ℕ) (b : Buffers) (writes : Bool) (p : Place) (fault line : ℕ) (now : Buffers) : Type 0 where
+pub record Left (t : List ℕ) (b : Buffers) (writes : Bool) (p : Place) (fault : Fault) (line : ℕ) (now : Buffers) : Type 0 where
   pub said : concluded fault line p ≡ saidOf (all t b)
   pub kept : writes ≡ false → now ≡ b
   pub written : writes ≡ true → (q : Progress) → all t b ≡ whole q → now ≡ q .held
@@ -147,20 +149,28 @@ module _ {t : List ℕ} {b : Buffers} {s : Sizes} {writes : Bool} {p : Place} {a
   end-read l = r .rest ∙ rw (no-line t at l)
 
   -- at the end of the text
-  pub at-end : length t ≤ at → (fault : ℕ) → fault ≡ 0 → Left t b writes p fault line now
+  pub at-end : length t ≤ at → (fault : Fault) → fault ≡ Fault.Nothing → Left t b writes p fault line now
   at-end l fault z = record {
-    said = rw (eq-eqb fault 0 z, end-read l) (end-said (wantedOf (p .wanted)) (progressOf p (r .held)) line);
+    said = rw (z, end-read l) (end-said (wantedOf (p .wanted)) (progressOf p (r .held)) line);
     kept = kept-by writes (r .present);
     written = λ w q h. held-by writes (r .present) w ∙ end-held (wantedOf (p .wanted)) (progressOf p (r .held)) q line (sym (end-read l) ∙ h);
   }
 
+  fault-said : (fault : Fault) → (fault ≡ Fault.Nothing → ⊥) → concluded fault line p ≡ refused (faultNumber fault) line
+  fault-said Fault.Nothing z = absurd (z refl)
+  fault-said Fault.Malformed z = refl
+  fault-said Fault.NoRoom z = refl
+
   -- at a fault
-  pub at-fault : (fault : ℕ) → (fault ≡ 0 → ⊥) → all t b ≡ faulty fault line → Left t b writes p fault line now
+  pub at-fault : (fault : Fault) → (fault ≡ Fault.Nothing → ⊥) → all t b ≡ faulty (faultNumber fault) line → Left t b writes p fault line now
   at-fault fault z f = record {
-    said = rw (ne-eqb fault 0 z, f);
+    said = fault-said fault z ∙ rw f;
     kept = kept-by writes (r .present);
     written = λ w q h. other (sym f ∙ h);
   }
 
-pub walked : {t : List ℕ} {b now : Buffers} {writes : Bool} {p : Place} {fault line : ℕ} {r : Reading} → Left t b writes p fault line now → saysReading r ≡ concluded fault line p → Walked t writes b now r
+  pub at-malformed : {fault : Fault} → fault ≡ Fault.Malformed → all t b ≡ faulty (faultNumber Fault.Malformed) line → Left t b writes p fault line now
+  at-malformed e f = rw e (at-fault Fault.Malformed (λ z. let no : _≡_ {A = ℕ} 0 1 = cc in omega arith) f)
+
+pub walked : {t : List ℕ} {b now : Buffers} {writes : Bool} {p : Place} {fault : Fault} {line : ℕ} {r : Reading} → Left t b writes p fault line now → saysReading r ≡ concluded fault line p → Walked t writes b now r
 walked l e = record { said = e ∙ l .said; kept = l .kept; written = l .written }

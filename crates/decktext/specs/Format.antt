@@ -4,7 +4,7 @@ use mathlib.Core.List.{List, [], _∷_}
 use mathlib.Core.Bool.{Bool, true, false}
 use Rattle.hexfloat.specs.Answer.{Answer, gives, stops}
 use Rattle.machine.specs.declared.order.Order.{Order}
-use Rattle.machine.specs.declared.order.Named.{Named}
+use Rattle.machine.specs.declared.order.Operation.{Operation}
 use Rattle.machine.specs.Order.{legalOf}
 use Rattle.machine.specs.Says.{provided, andThen}
 use Rattle.decktext.specs.Text.{valuesOf}
@@ -19,9 +19,9 @@ abbrev pub storageHeading : List ℕ
 storageHeading = 97 ∷ 116 ∷ 32 ∷ 112 ∷ 114 ∷ 111 ∷ 116 ∷ 101 ∷ 99 ∷ 116 ∷ 32 ∷ 119 ∷ 111 ∷ 114 ∷ 100 ∷ []
 
 -- an order that passes check 5
-abbrev pub passes : Named → Bool
-passes Named.Unknown = false
-passes (Named.Known op) = true
+abbrev pub passes : Answer Operation → Bool
+passes (gives op) = true
+passes (stops n) = false
 
 abbrev pub legal : Order → Answer Order
 legal o = provided (passes (legalOf o)) 16 (gives o)

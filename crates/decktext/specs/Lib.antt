@@ -1,4 +1,5 @@
 pub mod Text
+pub mod Fault
 pub mod Value
 pub mod Format
 pub mod Read

@@ -8,6 +8,8 @@ use Rattle.hexfloat.specs.Answer.{Answer, gives, stops}
 use Rattle.machine.specs.declared.order.Order.{Order}
 use Rattle.machine.specs.Says.{provided, andThen}
 use Rattle.decktext.specs.declared.deck.Reading.{Reading}
+use Rattle.decktext.specs.declared.fault.Fault.{Fault}
+use Rattle.decktext.specs.Fault.{faultNumber}
 use Rattle.decktext.specs.Text.{Line, ended, unended, linesOf, same}
 use Rattle.decktext.specs.Format.{deckHeading, storageHeading, orderOf, Halfword, halfwordOf}
 
@@ -27,7 +29,17 @@ pub data Said : Type 0 where
 
 abbrev pub saysReading : Reading → Said
 saysReading (Reading.Taken n) = taken n
-saysReading (Reading.Refused k l) = refused k l
+saysReading (Reading.Malformed l) = refused (faultNumber Fault.Malformed) l
+saysReading (Reading.NoRoom l) = refused (faultNumber Fault.NoRoom) l
+
+-- the number and the line of a refusal; both are 0 where the text is taken
+abbrev pub numberSaid : Said → ℕ
+numberSaid (taken n) = 0
+numberSaid (refused k l) = k
+
+abbrev pub lineSaid : Said → ℕ
+lineSaid (taken n) = 0
+lineSaid (refused k l) = l
 
 pub record Outcome : Type 0 where
   pub after : Buffers

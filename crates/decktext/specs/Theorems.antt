@@ -1,5 +1,5 @@
 -- What is proved of the reader, in the words of document 01, 'Deck text'. The proofs are in proofs/Theorems.antt.
-use Prim.Native.Nat.{ℕ, _+_, _≤_}
+use Prim.Native.Nat.{ℕ, _+_, _<_, _≤_}
 use mathlib.Core.Path.{_≡_}
 use mathlib.Core.List.{List, [], _∷_, _++_}
 use lib.ListN.{length, getD}
@@ -8,7 +8,7 @@ use Rattle.machine.specs.declared.order.Order.{Order}
 use Rattle.machine.specs.Order.{orderAt}
 use Rattle.decktext.specs.Text.{Line, ended, unended, linesOf}
 use Rattle.decktext.specs.Format.{Halfword}
-use Rattle.decktext.specs.Read.{Buffers, refused, taken, Wanted, heading, order, storage, halfword, Progress, start, Given, ordered, stored, lineRead, advanced, readText}
+use Rattle.decktext.specs.Read.{Buffers, Said, refused, taken, Wanted, heading, order, storage, halfword, Progress, start, Given, ordered, stored, lineRead, advanced, readText}
 
 -- each of these lines is ended, well formed and fits, and they take p to q
 abbrev pub Through : List Line → Progress → Progress → Type 0
@@ -49,7 +49,30 @@ pub record Written (t : List ℕ) (b : Buffers) : Type 0 where
   pub protect : (before after : List Line) (line : List ℕ) (p : Progress) (h : Halfword) → linesOf t ≡ before ++ (ended line ∷ after) → Through before (start b) p
       → lineRead p line ≡ gives (stored h) → getD (readText t b .after .protect) (h .at) 0 ≡ h .protect
 
+-- One of the numbers: a reading answers its count, or 16 or 17 with the line. Line 0 is a text above its limit of 32,768 bytes, and that is a 17.
+pub data Numbered (t : List ℕ) : Said → Type 0 where
+  count : (n : ℕ) → length t ≤ 32768 → Numbered t (taken n)
+  malformed : (line : ℕ) → 0 < line → length t ≤ 32768 → Numbered t (refused 16 line)
+  noRoom : (line : ℕ) → 0 < line → length t ≤ 32768 → Numbered t (refused 17 line)
+  aboveLimit : 32768 < length t → Numbered t (refused 17 0)
+
+-- The order lines of a text: the lines after the heading up to the first empty line or the end.
+abbrev pub afterFirst : List Line → List Line
+afterFirst [] = []
+afterFirst (l ∷ ls) = ls
+
+abbrev pub upToEmpty : List Line → List Line
+upToEmpty [] = []
+upToEmpty (unended l ∷ ls) = unended l ∷ upToEmpty ls
+upToEmpty (ended [] ∷ ls) = []
+upToEmpty (ended (b ∷ l) ∷ ls) = ended (b ∷ l) ∷ upToEmpty ls
+
+abbrev pub orderLines : List ℕ → List Line
+orderLines t = upToEmpty (afterFirst (linesOf t))
+
 -- The reader.
 pub record Reader : Type 0 where
   pub refusal : (t : List ℕ) (b : Buffers) (n k : ℕ) → length t ≤ 32768 → readText t b .said ≡ refused n k → FirstFault t b n k
   pub accepted : (t : List ℕ) (b : Buffers) (n : ℕ) → readText t b .said ≡ taken n → Written t b
+  pub numbered : (t : List ℕ) (b : Buffers) → Numbered t (readText t b .said)
+  pub counted : (t : List ℕ) (b : Buffers) (n : ℕ) → readText t b .said ≡ taken n → n ≡ length (orderLines t)

@@ -6,13 +6,15 @@ use lib.ListN.{length}
 use lib.Dec.{eqb, leb}
 use Rattle.hexfloat.specs.Answer.{Answer, gives, stops}
 use Rattle.machine.specs.Says.{provided}
+use Rattle.decktext.specs.declared.fault.Fault.{Fault}
 use Rattle.decktext.specs.declared.value.Value.{Value}
+use Rattle.decktext.specs.Fault.{faultNumber}
 use Rattle.decktext.specs.Text.{same}
 
 -- a value of the source: a number, or a 16
 abbrev pub saysValue : Value → Answer ℕ
 saysValue (Value.Of v) = gives v
-saysValue Value.Malformed = stops 16
+saysValue Value.Malformed = stops (faultNumber Fault.Malformed)
 
 -- every byte passes
 unfoldable pub all : (ℕ → Bool) → List ℕ → Bool

@@ -9,12 +9,16 @@ use Rattle.hexfloat.specs.Answer.{Answer, gives, stops}
 use Rattle.machine.specs.declared.order.Order.{Order}
 use Rattle.machine.specs.Says.{provided, andThen}
 use Rattle.decktext.specs.declared.deck.Reading.{Reading}
+use Rattle.decktext.specs.declared.fault.Fault.{Fault}
 use Rattle.decktext.specs.declared.given.Given.{Given as GivenLine}
 use Rattle.decktext.specs.declared.given.Halfword.{Halfword as GivenHalfword}
 use Rattle.decktext.specs.declared.line.Wanted.{Wanted as WantedLine}
 use Rattle.decktext.specs.declared.line.Progress.{Progress as Place}
 use Rattle.decktext.specs.declared.line.Sizes.{Sizes}
 use Rattle.decktext.specs.declared.line.Judged.{Judged}
+use Rattle.decktext.specs.declared.reader.LineSpan.{LineSpan}
+use Rattle.decktext.specs.declared.reader.LineReader.{LineReader}
+use Rattle.decktext.specs.Fault.{faultNumber}
 use Rattle.decktext.specs.Text.{same, linesOf}
 use Rattle.decktext.specs.Value.{all, markedDigit, numberFrom, codeOf, decimalOf, protectOf, wordOf}
 use Rattle.decktext.specs.Format.{deckHeading, storageHeading, legal, Halfword}
@@ -27,10 +31,16 @@ pub record Stretch (t : List ℕ) (from end b r : ℕ) : Type 0 where
   pub before : (k : ℕ) → k < r → from ≤ k → getD t k 0 ≡ b → ⊥
   pub found : r < end → getD t r 0 ≡ b
 
--- r is where the line at a place ends: its LF, or the text's end where no LF follows; past the text there is no line
-pub record LineEnd (t : List ℕ) (at r : ℕ) : Type 0 where
-  pub inside : at ≤ length t → Stretch t at (length t) 10 r
-  pub past : length t < at → r ≡ length t
+-- the line at a place ends at its LF, or at the text's end where no LF follows, and the next one begins after it; past the text there is no line
+pub record LineFrom (t : List ℕ) (at : ℕ) (l : LineSpan) : Type 0 where
+  pub inside : at ≤ length t → Stretch t at (length t) 10 (l .end)
+  pub past : length t < at → l .end ≡ length t
+  pub after : l .end < length t → l .next ≡ l .end + 1
+  pub last : length t ≤ l .end → l .next ≡ l .end
+
+-- the line that a reader has read
+abbrev pub lineOf : LineReader → LineSpan
+lineOf r = record { end = r .end; next = r .at }
 
 -- the number of some digits in a base, at most 65,535
 abbrev pub digitIn : ℕ → ℕ → Bool
@@ -56,12 +66,14 @@ givenOf (GivenLine.Stored h) = stored (halfwordAs h)
 
 abbrev pub saysJudged : Judged → Answer Given
 saysJudged (Judged.Gives g) = gives (givenOf g)
-saysJudged (Judged.Faulty n) = stops n
+saysJudged Judged.Malformed = stops (faultNumber Fault.Malformed)
+saysJudged Judged.NoRoom = stops (faultNumber Fault.NoRoom)
 
--- the number of a fault, or 0
-abbrev pub faultOf : Judged → ℕ
-faultOf (Judged.Gives g) = 0
-faultOf (Judged.Faulty n) = n
+-- what is wrong with a line
+abbrev pub faultOf : Judged → Fault
+faultOf (Judged.Gives g) = Fault.Nothing
+faultOf Judged.Malformed = Fault.Malformed
+faultOf Judged.NoRoom = Fault.NoRoom
 
 -- the walk's place and some buffers
 abbrev pub progressOf : Place → Buffers → Progress
@@ -118,8 +130,10 @@ endSaid order n line = taken n
 endSaid storage n line = refused 16 line
 endSaid halfword n line = taken n
 
-abbrev pub concluded : ℕ → ℕ → Place → Said
-concluded fault line p = cond (eqb fault 0) (endSaid (wantedOf (p .wanted)) (p .count) line) (refused fault line)
+abbrev pub concluded : Fault → ℕ → Place → Said
+concluded Fault.Nothing line p = endSaid (wantedOf (p .wanted)) (p .count) line
+concluded Fault.Malformed line p = refused (faultNumber Fault.Malformed) line
+concluded Fault.NoRoom line p = refused (faultNumber Fault.NoRoom) line
 
 abbrev pub saidOf : Read → Said
 saidOf (whole p) = taken (p .count)

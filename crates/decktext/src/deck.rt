@@ -1,4 +1,5 @@
 // Reading a deck text: the walk over lines and values, first to find a fault, then to write.
+use crate::fault::Fault;
 use crate::given::store;
 use crate::line::Judged;
 use crate::line::Progress;
@@ -15,20 +16,43 @@ use crate::value::Value;
 ghost use mathlib.Core.Path.{_≡_};
 ghost use Prim.Native.Nat.{_≤_};
 ghost use lib.ListN.{length};
-ghost use Rattle.decktext.specs.Read.{buffers, outcome, saysReading, readText};
-ghost use Rattle.decktext.specs.Walk.{faultOf, concluded, Walked};
+ghost use Rattle.decktext.specs.Read.{buffers, outcome, saysReading, numberSaid, lineSaid, readText};
+ghost use Rattle.decktext.specs.Walk.{wantedOf, faultOf, endSaid, concluded, Walked};
 
-// The order count, or the number and the line of a refusal.
+// The order count, or a refusal with its line. Line 0 is a text above its limit.
 pub enum Reading {
     Taken(u32),
-    Refused(u8, u32),
+    Malformed(u32),
+    NoRoom(u32),
+}
+
+// The number of a refusal, or 0.
+pub fn number_of(r: Reading) -> u8
+    ensures { λ n. ⌜ n ≡ numberSaid (saysReading r) ⌝ }
+{
+    match r {
+        Reading::Taken(_) => 0,
+        Reading::Malformed(_) => 16,
+        Reading::NoRoom(_) => 17,
+    }
+}
+
+// The line of a refusal, or 0.
+pub fn line_of(r: Reading) -> u32
+    ensures { λ n. ⌜ n ≡ lineSaid (saysReading r) ⌝ }
+{
+    match r {
+        Reading::Taken(_) => 0,
+        Reading::Malformed(line) => line,
+        Reading::NoRoom(line) => line,
+    }
 }
 
 pub fn read(text: &[u8], cells: &mut [u16], memory: &mut [u16], protect: &mut [u8]) -> Reading
     ensures { λ r. ⌜ outcome (buffers (now (cells .exit)) (now (memory .exit)) (now (protect .exit))) (saysReading r) ≡ readText (now (text .entry)) (buffers (now (cells .entry)) (now (memory .entry)) (now (protect .entry))) ⌝ }
 {
     if 32768 < text.len() {
-        return Reading::Refused(17, 0);
+        return Reading::NoRoom(0);
     }
     let found = walk(text, cells, memory, protect, false);
     let Reading::Taken(_) = found else {
@@ -53,11 +77,12 @@ fn walk(
     let mut p = start();
     let mut at = 0;
     let mut line: u32 = 1;
-    let mut fault: u8 = 0;
+    let mut fault = Fault::Nothing;
     'lines: while at < text.len() {
-        let end = next_line(text, at);
+        let found = next_line(text, at);
+        let end = found.end;
         if end == text.len() {
-            fault = 16;
+            fault = Fault::Malformed;
             break 'lines;
         }
         let w = p.wanted;
@@ -68,7 +93,7 @@ fn walk(
         while i < wanted {
             let to = find(text, from, end, b' ');
             let Value::Of(v) = value(w, i, to == end, &text[from..to]) else {
-                fault = 16;
+                fault = Fault::Malformed;
                 break 'lines;
             };
             values[i] = v;
@@ -82,33 +107,41 @@ fn walk(
         };
         store(writes, g, p.count, cells, memory, protect);
         p = advance(p, g);
-        at = end + 1;
+        at = found.next;
         line += 1;
     }
     conclude(fault, line, p)
 }
 
-fn fault_of(j: Judged) -> u8
+fn fault_of(j: Judged) -> Fault
     ensures { λ r. ⌜ r ≡ faultOf j ⌝ }
 {
     match j {
-        Judged::Gives(_) => 0,
-        Judged::Faulty(number) => number,
+        Judged::Gives(_) => Fault::Nothing,
+        Judged::Malformed => Fault::Malformed,
+        Judged::NoRoom => Fault::NoRoom,
     }
 }
 
 // The fault, where there is one; else what the end of the text says.
-fn conclude(fault: u8, line: u32, p: Progress) -> Reading
+fn conclude(fault: Fault, line: u32, p: Progress) -> Reading
     ensures { λ r. ⌜ saysReading r ≡ concluded fault line p ⌝ }
 {
-    if fault != 0 {
-        return Reading::Refused(fault, line);
+    match fault {
+        Fault::Nothing => at_end(line, p),
+        Fault::Malformed => Reading::Malformed(line),
+        Fault::NoRoom => Reading::NoRoom(line),
     }
+}
+
+fn at_end(line: u32, p: Progress) -> Reading
+    ensures { λ r. ⌜ saysReading r ≡ endSaid (wantedOf (p .wanted)) (p .count) line ⌝ }
+{
     let w = p.wanted;
     match w {
-        Wanted::Heading => Reading::Refused(16, line),
+        Wanted::Heading => Reading::Malformed(line),
         Wanted::Order => Reading::Taken(p.count),
-        Wanted::Storage => Reading::Refused(16, line),
+        Wanted::Storage => Reading::Malformed(line),
         Wanted::Halfword => Reading::Taken(p.count),
     }
 }

@@ -4,6 +4,7 @@
 // was. The format is a definition of specs/ over lines and values.
 mod deck;
 mod digit;
+mod fault;
 mod given;
 mod line;
 mod mnemonic;
@@ -12,4 +13,6 @@ mod span;
 mod value;
 
 pub use deck::Reading;
+pub use deck::line_of;
+pub use deck::number_of;
 pub use deck::read;

@@ -7,7 +7,7 @@ use crate::value::Value;
 use crate::value::decimal;
 use crate::value::protect;
 use crate::value::word;
-use machine::Named;
+use machine::Legality;
 use machine::Order;
 ghost use mathlib.Core.Path.{_≡_};
 ghost use mathlib.Core.Bool.{cond};
@@ -64,7 +64,8 @@ pub fn start() -> Progress
 
 pub enum Judged {
     Gives(Given),
-    Faulty(u8),
+    Malformed,
+    NoRoom,
 }
 
 // How many values a line of so many bytes has: none for a heading and for the empty line.
@@ -159,7 +160,7 @@ fn judge_heading(line: &[u8], wanted: &[u8]) -> Judged
     if is_same(line, wanted) {
         Judged::Gives(Given::Headed)
     } else {
-        Judged::Faulty(16)
+        Judged::Malformed
     }
 }
 
@@ -167,12 +168,12 @@ fn judge_order(p: Progress, o: Order, s: Sizes) -> Judged
     requires { ⌜ p .count < 65536 ⌝ }
     ensures { λ r. ⌜ ((b : Buffers) → Sized b s → saysJudged r ≡ andThen (legal o) (orderFits (progressOf p b))) ⌝ }
 {
-    let named = machine::legal(o);
-    let Named::Known(_) = named else {
-        return Judged::Faulty(16);
+    let checked = machine::legal(o);
+    let Legality::Legal(_) = checked else {
+        return Judged::Malformed;
     };
     if s.cells < p.count as usize * 4 + 4 {
-        return Judged::Faulty(17);
+        return Judged::NoRoom;
     }
     Judged::Gives(Given::Ordered(o))
 }
@@ -182,14 +183,14 @@ fn judge_halfword(p: Progress, h: Halfword, s: Sizes) -> Judged
 {
     let at = h.at as u32;
     if at < p.least {
-        return Judged::Faulty(16);
+        return Judged::Malformed;
     }
     let i = h.at as usize;
     if s.memory <= i {
-        return Judged::Faulty(17);
+        return Judged::NoRoom;
     }
     if s.protect <= i {
-        return Judged::Faulty(17);
+        return Judged::NoRoom;
     }
     Judged::Gives(Given::Stored(h))
 }

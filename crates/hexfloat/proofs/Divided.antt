@@ -1,5 +1,5 @@
 -- What the code of a divide has at hand, and what follows of the quotient.
-use mathlib.Core.Path.{_≡_, refl, sym, ap₂}
+use mathlib.Core.Path.{_≡_, refl, ap₂}
 use mathlib.Core.Bool.{Bool}
 use mathlib.Core.Logic.{_⊎_, inl, inr, ⊎-elim}
 use Prim.Native.Nat.{ℕ, _+_, _-_, _*_, _/_, _^_, _≤_, _<_}
@@ -15,7 +15,7 @@ use Rattle.hexfloat.specs.Word.{digitsOf, partsOf, wordsOf, magnitude}
 use Rattle.hexfloat.specs.Divide.{quotient, quotientWords}
 use Rattle.hexfloat.specs.Operand.{Operand, IsPlaced, normalised, leadOf}
 use Rattle.hexfloat.proofs.Digits.{pos}
-use Rattle.hexfloat.proofs.Normalised.{most, least, exact, place-most, positive}
+use Rattle.hexfloat.proofs.Normalised.{normal-most, normal-least, normal-exact, place-most, magnitude-positive}
 use Rattle.hexfloat.proofs.Placed.{placed}
 
 -- a lead is 0 or 1, as the fractions stand to each other
@@ -52,29 +52,29 @@ bounds o ne e =
     rw e
     (record {
       place = place-most o;
-      most = most o;
-      least = least o (pos-of-ne-zero ne);
-      exact = exact o;
-      positive = positive o (pos-of-ne-zero ne);
+      most = normal-most o;
+      least = normal-least o (pos-of-ne-zero ne);
+      exact = normal-exact o;
+      positive = magnitude-positive o (pos-of-ne-zero ne);
     })
 
 module _ {d : ℕ} {x y : Parts} {n m : Normal} {lead : ℕ} (r : Ready d x y n m lead) where
-  pub left : Bounds d x n
-  left = bounds (r .dividend) (r .some-dividend) (r .normal-dividend)
+  pub dividend-bounds : Bounds d x n
+  dividend-bounds = bounds (r .dividend) (r .some-dividend) (r .normal-dividend)
 
-  pub right : Bounds d y m
-  right = bounds (r .divisor) (r .some-divisor) (r .normal-divisor)
+  pub divisor-bounds : Bounds d y m
+  divisor-bounds = bounds (r .divisor) (r .some-divisor) (r .normal-divisor)
 
   near : (m .fraction * 16 ^ lead ≤ n .fraction * 16) × (n .fraction < m .fraction * 16 ^ lead)
-  near = rw (r .leads) (lead-bounds (16 ^ d) (n .fraction) (m .fraction) (left .most) (right .most) (left .least) (right .least))
+  near = rw (r .leads) (lead-bounds (16 ^ d) (n .fraction) (m .fraction) (dividend-bounds .most) (divisor-bounds .most) (dividend-bounds .least) (divisor-bounds .least))
 
-  pub few : lead ≤ 1
-  few = rw (r .leads) (lead-most (n .fraction) (m .fraction))
+  pub lead-few : lead ≤ 1
+  lead-few = rw (r .leads) (lead-most (n .fraction) (m .fraction))
 
   pub ratio-placed : IsPlaced d (magnitude d x) (magnitude d y) (n .place + 64 + lead) (m .place) (n .fraction * 16 ^ (d - lead) / m .fraction)
   ratio-placed =
-      placed d (magnitude d x) (magnitude d y) (n .fraction) (n .place) (m .fraction) (m .place) lead (left .exact) (right .exact) (near .0) (near .1)
-      (omega (arith, few, r .dividend .some)) (omega (arith, right .least, pos d))
+      placed d (magnitude d x) (magnitude d y) (n .fraction) (n .place) (m .fraction) (m .place) lead (dividend-bounds .exact) (divisor-bounds .exact) (near .0) (near .1)
+      (omega (arith, lead-few, r .dividend .some)) (omega (arith, divisor-bounds .least, pos d))
 
 -- the same quotient in words, where the operands' parts are known
 pub in-words : (w : Width) (mask : Bool) (a b : Words) {x y : Parts} → x ≡ partsOf w a → y ≡ partsOf w b

@@ -5,7 +5,6 @@ use native.Mathlib.Nat.{ne-of-gt, le-of-eq, lt-of-lt-of-le, lt-of-le-of-lt, mul-
 use native.Mathlib.Omega.{arith}
 use borrow.Author.Tests.{lt-ltb, le-ltb, eq-eqb, ne-eqb}
 use lib.Pow.{pow-add}
-use Rattle.hexfloat.specs.declared.word.Parts.{Parts}
 use Rattle.hexfloat.specs.declared.word.Width.{Width}
 use Rattle.hexfloat.specs.declared.word.Width.the-variants.{Short, Long}
 use Rattle.hexfloat.specs.declared.word.Words.{Words}

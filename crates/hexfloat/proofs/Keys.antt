@@ -11,7 +11,7 @@ use Rattle.hexfloat.specs.Condition.{conditionBy}
 use Rattle.hexfloat.specs.Compare.{rankCondition}
 use Rattle.hexfloat.specs.Operand.{Operand, normalised, magnitudeKey}
 use Rattle.hexfloat.proofs.Digits.{pos, mono}
-use Rattle.hexfloat.proofs.Normalised.{most, least, exact, positive}
+use Rattle.hexfloat.proofs.Normalised.{normal-most, normal-least, normal-exact, magnitude-positive}
 
 pub data Trichotomy (a b : ℕ) : Type 0 where
   less : a < b → Trichotomy a b
@@ -66,37 +66,37 @@ module _ {d : ℕ} {p : Parts} (o : Operand d p) where
   key-some h = rw (ne-eqb (p .fraction) 0 (λ e. omega arith))
 
   key-positive : 0 < p .fraction → 0 < magnitudeKey d p
-  key-positive h = rw (key-some h) (omega (arith, least o h, pos d))
+  key-positive h = rw (key-some h) (omega (arith, normal-least o h, pos d))
 
   pub zero-is-zero : p .fraction ≡ 0 → magnitude d p ≡ 0
   unfolding magnitude
   zero-is-zero e = ap (λ (x : ℕ). x * 16 ^ (p .characteristic + (14 - d))) e ∙ zero-mul (16 ^ (p .characteristic + (14 - d)))
 
   -- a key below 2^56 times the place, at 14 digits
-  small : normalised d p .fraction < 2 ^ 56
-  small = lt-of-lt-of-le (most o) (mono {j = 14} (o .most))
+  fraction-small : normalised d p .fraction < 2 ^ 56
+  fraction-small = lt-of-lt-of-le (normal-most o) (mono {j = 14} (o .most))
 
   -- a key is zero where the magnitude is
   pub zero-key : magnitudeKey d p ≡ 0 → magnitude d p ≡ 0
   zero-key e = ⊎-elim zero-is-zero (λ h. let no : ⊥ = omega (arith, key-positive h) in absurd no) (eq-zero-or-pos (p .fraction))
 
   pub some-key : (magnitudeKey d p ≡ 0 → ⊥) → 0 < magnitude d p
-  some-key ne = ⊎-elim (λ e. absurd (ne (key-zero e))) (positive o) (eq-zero-or-pos (p .fraction))
+  some-key ne = ⊎-elim (λ e. absurd (ne (key-zero e))) (magnitude-positive o) (eq-zero-or-pos (p .fraction))
 
 module _ {d : ℕ} {x y : Parts} (ox : Operand d x) (oy : Operand d y) where
   pub key-less : magnitudeKey d x < magnitudeKey d y → magnitude d x < magnitude d y
   key-less l = ⊎-elim none some (eq-zero-or-pos (y .fraction))
     where
       scaled : normalised d x .fraction * 16 ^ normalised d x .place < normalised d y .fraction * 16 ^ normalised d y .place → magnitude d x < magnitude d y
-      scaled h = lt-of-mul-lt-mul-right (16 ^ d) (lt-of-le-of-lt (le-of-eq (exact ox)) (lt-of-lt-of-le h (le-of-eq (sym (exact oy)))))
+      scaled h = lt-of-mul-lt-mul-right (16 ^ d) (lt-of-le-of-lt (le-of-eq (normal-exact ox)) (lt-of-lt-of-le h (le-of-eq (sym (normal-exact oy)))))
 
       none : y .fraction ≡ 0 → magnitude d x < magnitude d y
       none e = let no : ⊥ = omega (arith, key-zero oy e) in absurd no
 
       far : 0 < y .fraction → normalised d x .place < normalised d y .place → normalised d x .fraction * 16 ^ normalised d x .place < normalised d y .fraction * 16 ^ normalised d y .place
       far hy p =
-          lt-of-lt-of-le (mul-lt-mul-of-pos-right (most ox) (pos (normalised d x .place)))
-          (le-trans (mul-le-mul-right (16 ^ normalised d x .place) (least oy hy))
+          lt-of-lt-of-le (mul-lt-mul-of-pos-right (normal-most ox) (pos (normalised d x .place)))
+          (le-trans (mul-le-mul-right (16 ^ normalised d x .place) (normal-least oy hy))
           (le-trans (le-of-eq (mul-assoc (normalised d y .fraction) 16 (16 ^ normalised d x .place) ∙ ap (λ (z : ℕ). normalised d y .fraction * z) (sym (pow-succ' 16 (normalised d x .place)))))
           (mul-le-mul-left (normalised d y .fraction) (mono p))))
 
@@ -106,11 +106,11 @@ module _ {d : ℕ} {x y : Parts} (ox : Operand d x) (oy : Operand d y) where
       both : 0 < y .fraction → 0 < x .fraction → magnitude d x < magnitude d y
       both hy hx =
           scaled (⊎-elim (far hy) near
-          (lexical (2 ^ 56) (normalised d x .place) (normalised d x .fraction) (normalised d y .place) (normalised d y .fraction) (small ox) (small oy)
+          (lexical (2 ^ 56) (normalised d x .place) (normalised d x .fraction) (normalised d y .place) (normalised d y .fraction) (fraction-small ox) (fraction-small oy)
           (lt-of-le-of-lt (le-of-eq (sym (key-some ox hx))) (lt-of-lt-of-le l (le-of-eq (key-some oy hy))))))
 
       some : 0 < y .fraction → magnitude d x < magnitude d y
-      some hy = ⊎-elim (λ e. lt-of-le-of-lt (le-of-eq (zero-is-zero ox e)) (positive oy hy)) (both hy) (eq-zero-or-pos (x .fraction))
+      some hy = ⊎-elim (λ e. lt-of-le-of-lt (le-of-eq (zero-is-zero ox e)) (magnitude-positive oy hy)) (both hy) (eq-zero-or-pos (x .fraction))
 
   pub key-same : magnitudeKey d x ≡ magnitudeKey d y → magnitude d x ≡ magnitude d y
   key-same e = ⊎-elim none some (eq-zero-or-pos (x .fraction))
@@ -121,9 +121,9 @@ module _ {d : ℕ} {x y : Parts} (ox : Operand d x) (oy : Operand d y) where
       both : 0 < x .fraction → 0 < y .fraction → magnitude d x ≡ magnitude d y
       both hx hy =
           let k : normalised d x .place * 2 ^ 56 + normalised d x .fraction ≡ normalised d y .place * 2 ^ 56 + normalised d y .fraction = sym (key-some ox hx) ∙ e ∙ key-some oy hy in
-          let p : normalised d x .place ≡ normalised d y .place = omega (arith, k, small ox, small oy) in
-          let f : normalised d x .fraction ≡ normalised d y .fraction = omega (arith, k, small ox, small oy) in
-          eq-of-mul-eq-mul-right (16 ^ d) (pos d) (magnitude d x) (magnitude d y) (exact ox ∙ ap₂ (λ (u v : ℕ). u * 16 ^ v) f p ∙ sym (exact oy))
+          let p : normalised d x .place ≡ normalised d y .place = omega (arith, k, fraction-small ox, fraction-small oy) in
+          let f : normalised d x .fraction ≡ normalised d y .fraction = omega (arith, k, fraction-small ox, fraction-small oy) in
+          eq-of-mul-eq-mul-right (16 ^ d) (pos d) (magnitude d x) (magnitude d y) (normal-exact ox ∙ ap₂ (λ (u v : ℕ). u * 16 ^ v) f p ∙ sym (normal-exact oy))
 
       some : 0 < x .fraction → magnitude d x ≡ magnitude d y
       some hx = ⊎-elim (λ f. let no : ⊥ = omega (arith, key-positive ox hx, key-zero oy f) in absurd no) (both hx) (eq-zero-or-pos (y .fraction))

@@ -12,11 +12,11 @@ use Rattle.hexfloat.specs.Operand.{Operand, normalised}
 use Rattle.hexfloat.proofs.Digits.{pos, mono, digits-are, digits-le, leading-digits, same-power}
 
 -- the leading zero bits of an operand's fraction in a u64, over four
-pub zeros : {d : ℕ} {p : Parts} → Operand d p → leadingZeros 64 (p .fraction) / 4 + digits (p .fraction) ≡ 16
-zeros {d} {p} o = leading-digits 16 (p .fraction) (lt-of-lt-of-le (o .fraction) (mono {j = 16} (omega arith)))
+pub leading-zeros : {d : ℕ} {p : Parts} → Operand d p → leadingZeros 64 (p .fraction) / 4 + digits (p .fraction) ≡ 16
+leading-zeros {d} {p} o = leading-digits 16 (p .fraction) (lt-of-lt-of-le (o .fraction) (mono {j = 16} (omega arith)))
 
-pub few : {d : ℕ} {p : Parts} → Operand d p → digits (p .fraction) ≤ d
-few {d} {p} o = digits-le (p .fraction) d (o .fraction)
+pub digits-few : {d : ℕ} {p : Parts} → Operand d p → digits (p .fraction) ≤ d
+digits-few {d} {p} o = digits-le (p .fraction) d (o .fraction)
 
 module _ (d f : ℕ) (h : digits f ≤ d) where
   split : 16 ^ digits f * 16 ^ (d - digits f) ≡ 16 ^ d
@@ -31,27 +31,27 @@ module _ (d f : ℕ) (h : digits f ≤ d) where
       (le-trans (mul-le-mul-right (16 ^ (d - digits f)) (digits-are f .least p)) (le-of-eq (mul-right-comm f 16 (16 ^ (d - digits f)))))
 
 module _ {d : ℕ} {p : Parts} (o : Operand d p) where
-  pub most : normalised d p .fraction < 16 ^ d
+  pub normal-most : normalised d p .fraction < 16 ^ d
   unfolding normalised
-  most = moved-most d (p .fraction) (few o)
+  normal-most = moved-most d (p .fraction) (digits-few o)
 
-  pub least : 0 < p .fraction → 16 ^ d ≤ normalised d p .fraction * 16
+  pub normal-least : 0 < p .fraction → 16 ^ d ≤ normalised d p .fraction * 16
   unfolding normalised
-  least h = moved-least d (p .fraction) (few o) h
+  normal-least h = moved-least d (p .fraction) (digits-few o) h
 
   pub place-most : normalised d p .place ≤ 141
   unfolding normalised
-  place-most = omega (arith, few o, o .characteristic, o .most)
+  place-most = omega (arith, digits-few o, o .characteristic, o .most)
 
   -- the value is kept
-  pub exact : magnitude d p * 16 ^ d ≡ normalised d p .fraction * 16 ^ normalised d p .place
+  pub normal-exact : magnitude d p * 16 ^ d ≡ normalised d p .fraction * 16 ^ normalised d p .place
   unfolding normalised magnitude
-  exact =
+  normal-exact =
       mul-assoc (p .fraction) (16 ^ (p .characteristic + (14 - d))) (16 ^ d)
       ∙ ap (λ (x : ℕ). p .fraction * x)
-      (same-power (p .characteristic + (14 - d)) d (d - digits (p .fraction)) (p .characteristic + 14 + digits (p .fraction) - d) (omega (arith, few o, o .most)))
+      (same-power (p .characteristic + (14 - d)) d (d - digits (p .fraction)) (p .characteristic + 14 + digits (p .fraction) - d) (omega (arith, digits-few o, o .most)))
       ∙ sym (mul-assoc (p .fraction) (16 ^ (d - digits (p .fraction))) (16 ^ (p .characteristic + 14 + digits (p .fraction) - d)))
 
-  pub positive : 0 < p .fraction → 0 < magnitude d p
+  pub magnitude-positive : 0 < p .fraction → 0 < magnitude d p
   unfolding magnitude
-  positive h = mul-pos h (pos (p .characteristic + (14 - d)))
+  magnitude-positive h = mul-pos h (pos (p .characteristic + (14 - d)))

@@ -1,6 +1,6 @@
 -- Where a ratio stands: its characteristic and its fraction are kept where the dividend and the divisor grow alike. So they are those of the normalised
 -- fractions, with the places apart; and a characteristic that is known as a difference of places is known.
-use mathlib.Core.Path.{_≡_, sym, ap, ap₂, _∙_, subst, subst₂}
+use mathlib.Core.Path.{_≡_, sym, ap, _∙_, subst, subst₂}
 use mathlib.Core.Bool.{Bool}
 use Prim.Native.Nat.{ℕ, suc, _+_, _-_, _*_, _/_, _^_, _≤_, _<_}
 use native.Mathlib.Nat.{le-trans, le-of-eq, lt-of-lt-of-le, lt-of-le-of-lt, mul-le-mul-right, mul-lt-mul-of-pos-right, lt-of-mul-lt-mul-right, le-of-mul-le-mul-right, mul-assoc, mul-comm, mul-right-comm}
@@ -15,14 +15,14 @@ use Rattle.hexfloat.proofs.Ratio.{cut-is}
 use Rattle.hexfloat.proofs.Theorems.{exact-result}
 
 -- the bounds of a characteristic and of a fraction, with x for the divisor times the power of the characteristic
-record Bounded (d a x f : ℕ) : Type 0 where
-  least : x ≤ a * 16 ^ 65
-  most : a * 16 ^ 64 < x
-  cut-least : f * x ≤ a * 16 ^ (64 + d)
-  cut-most : a * 16 ^ (64 + d) < suc f * x
+pub record Bounded (d a x f : ℕ) : Type 0 where
+  pub least : x ≤ a * 16 ^ 65
+  pub most : a * 16 ^ 64 < x
+  pub cut-least : f * x ≤ a * 16 ^ (64 + d)
+  pub cut-most : a * 16 ^ (64 + d) < suc f * x
 
 module _ {d a x f : ℕ} (s : ℕ) (some : 0 < s) where
-  grown : Bounded d a x f → Bounded d (a * s) (x * s) f
+  pub grown : Bounded d a x f → Bounded d (a * s) (x * s) f
   grown r = record {
     least = le-trans (mul-le-mul-right s (r .least)) (le-of-eq (mul-right-comm a (16 ^ 65) s));
     most = lt-of-le-of-lt (le-of-eq (mul-right-comm a s (16 ^ 64))) (mul-lt-mul-of-pos-right (r .most) some);
@@ -30,7 +30,7 @@ module _ {d a x f : ℕ} (s : ℕ) (some : 0 < s) where
     cut-most = lt-of-le-of-lt (le-of-eq (mul-right-comm a s (16 ^ (64 + d)))) (lt-of-lt-of-le (mul-lt-mul-of-pos-right (r .cut-most) some) (le-of-eq (mul-assoc (suc f) x s)));
   }
 
-  shrunk : Bounded d (a * s) (x * s) f → Bounded d a x f
+  pub shrunk : Bounded d (a * s) (x * s) f → Bounded d a x f
   shrunk r = record {
     least = le-of-mul-le-mul-right (le-trans (r .least) (le-of-eq (mul-right-comm a s (16 ^ 65)))) some;
     most = lt-of-mul-lt-mul-right s (lt-of-le-of-lt (le-of-eq (mul-right-comm a (16 ^ 64) s)) (r .most));
@@ -113,11 +113,11 @@ module _ {d a b up down f : ℕ} (r : IsPlaced d a b up down f) where
 
 -- so the result is known
 module _ (d : ℕ) (mask : Bool) (sign a b : ℕ) (up down f : ℕ) (some : 0 < b) (r : IsPlaced d a b up down f) where
-  pub small : up < down → resultOf d mask sign a b ≡ underflow mask
-  small h = exact-result d mask sign a b some .underflows (down - up) (omega arith) (is-below-zero r h)
+  pub below-limits : up < down → resultOf d mask sign a b ≡ underflow mask
+  below-limits h = exact-result d mask sign a b some .underflows (down - up) (omega arith) (is-below-zero r h)
 
-  pub large : down ≤ up → 127 < up - down → resultOf d mask sign a b ≡ stops 9
-  large h l = exact-result d mask sign a b some .overflows (up - down) (its-characteristic r h) l
+  pub above-limits : down ≤ up → 127 < up - down → resultOf d mask sign a b ≡ stops 9
+  above-limits h l = exact-result d mask sign a b some .overflows (up - down) (its-characteristic r h) l
 
-  pub between : down ≤ up → up - down ≤ 127 → resultOf d mask sign a b ≡ gives (record { sign = sign; characteristic = up - down; fraction = f })
-  between h l = exact-result d mask sign a b some .cut (up - down) f (its-characteristic r h) l (its-fraction r h)
+  pub within-limits : down ≤ up → up - down ≤ 127 → resultOf d mask sign a b ≡ gives (record { sign = sign; characteristic = up - down; fraction = f })
+  within-limits h l = exact-result d mask sign a b some .cut (up - down) f (its-characteristic r h) l (its-fraction r h)

@@ -55,6 +55,7 @@ pub record Turning (k rest b : ℕ) : Type 0 where
   pub normal : 16 ^ 13 ≤ b
   pub dividend : rest < 16 ^ 14
 
+-- an estimate that is right or one too small
 pub record Correcting (q rest b : ℕ) : Type 0 where
   pub fits : q < 16 ^ 8
   pub near : rest < 2 * b

@@ -1,8 +1,8 @@
 // Divides (8.15, 8.16).
 //
 // Both fractions are normalised, so that the quotient's first digit stands right before or right
-// after the point. A short quotient is one division of u64; a long one two turns of at most seven
-// digits, in each of which the dividend is wider than a u64.
+// after the point. A short quotient is one division of a u64. A long one is two turns of six or seven
+// digits, each one division and at most one correction.
 use crate::result::Result;
 use crate::word::Width;
 use crate::word::Words;
@@ -60,8 +60,8 @@ pub struct Turn {
     pub rest: u64,
 }
 
-// rest * 16^k over b, where that is wider than a u64. The digits are estimated by the divisor's
-// leading digits and one more, which is too little by one at the most.
+// rest * 16^k over b, where that is wider than a u64. The estimate divides by the divisor's leading
+// digits plus one; as the divisor is normalised, it is right or one too small.
 fn take_turn(k: u32, rest: u64, b: u64) -> Turn
     requires { ⌜ Turning k rest b ⌝ }
     ensures { λ r. ⌜ r ≡ turnOf (rest * 16 ^ k) b ⌝ }

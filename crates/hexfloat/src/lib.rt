@@ -1,8 +1,8 @@
 // Hexadecimal floating point of the AP-101S, digit for digit (Principles of Operation, section 8).
 //
-// What is public here takes words of any content and has no `requires`; the functions of the modules
-// that are not, and stand behind it, may have one. The meaning of each is a definition of specs/,
-// which speaks of exact values as whole numbers.
+// What is public takes words of any content and has no `requires`; the functions behind it, which the
+// modules offer each other alone, may have one. What each means is a definition of specs/, which
+// speaks of exact values as whole numbers.
 mod comparison;
 mod condition_code;
 mod convert;

@@ -16,8 +16,8 @@ pub enum Result {
     Underflow,
 }
 
-// The result of a ratio that is not zero, from its fraction and its characteristic. That is
-// up - down, so that one below 0 can be told.
+// The result of any ratio that has this fraction and the characteristic up - down, a difference of
+// two places so that it can be below 0.
 pub fn limited(width: Width, mask: bool, sign: u32, up: u32, down: u32, fraction: u64) -> Result
     requires { ⌜ sign ≤ 1 ⌝ }
     requires { ⌜ fraction < 16 ^ digitsOf width ⌝ }

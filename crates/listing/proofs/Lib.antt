@@ -2,4 +2,5 @@
 pub mod Answers
 pub mod Appends
 pub mod Decimals
+pub mod Theorems
 pub mod Words

@@ -1,3 +1,4 @@
 pub mod Digits
 pub mod Text
 pub mod Listing
+pub mod Theorems

@@ -45,7 +45,7 @@ registerLines (suc k) f g = registerLines k f g ++ registerLine k (getD f k 0) (
 unfoldable pub listed : ℕ → ℕ → Registers → List ℕ
 listed steps stop g =
     runHeading
-    ++ (field steps 32 ++ (field stop 32 ++ (field (g .pointer) 32 ++ (field (g .code) 32 ++ (field (g .mask) 10
+    ++ (field steps 32 ++ (field stop 32 ++ (field (g .status .pointer) 32 ++ (field (g .status .condition) 32 ++ (field (g .status .mask) 10
     ++ (registerHeading ++ registerLines 8 (g .float) (g .general)))))))
 
 -- 4,096 blank halfwords, unprotected, and cells for 4,096 orders
@@ -56,11 +56,11 @@ blank = buffers (replicate 16384 0) (replicate 4096 0) (replicate 4096 0)
 abbrev pub ranFrom : ℕ → Buffers → Outcome Machine
 ranFrom n b = ran (take (n * 4) (b .cells)) (b .protect) 4294967295 (machine freshState (b .memory) (replicate 4096 0))
 
-abbrev pub shown : Outcome Machine → List ℕ
-shown r = listed (r .taken) (r .stop) (r .after .state .registers)
+abbrev pub listedRun : Outcome Machine → List ℕ
+listedRun r = listed (r .taken) (r .stop) (r .after .state .registers)
 
 abbrev pub answered : Said → Buffers → List ℕ
-answered (taken n) b = shown (ranFrom n b)
+answered (taken n) b = listedRun (ranFrom n b)
 answered (refused number line) b = refusal number line
 
 unfoldable pub listingOf : List ℕ → List ℕ

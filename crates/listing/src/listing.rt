@@ -12,35 +12,31 @@ ghost use mathlib.Core.Path.{_≡_};
 ghost use Prim.Native.Nat.{_+_, _<_, _≤_};
 ghost use Rattle.machine.specs.Stops.{numberOf};
 ghost use Rattle.listing.specs.Listing.{field, refusal, registerLine, registerLines, listed, listingOf};
-ghost use Rattle.listing.specs.Text.{textOf, Appended};
+ghost use Rattle.listing.specs.Text.{Holds, Appended};
 
-// Reads the text, runs its orders from a fresh state to a stop, and lists what stands then. The
-// bytes past the length are free.
+// Reads the text, runs its orders from a fresh state to a stop, and lists what stands then.
 pub fn answer(text: &[u8]) -> Listing
-    ensures { λ r. ⌜ textOf r ≡ listingOf (now (text .entry)) ⌝ }
-    ensures { λ r. ⌜ r .length ≤ 320 ⌝ }
+    ensures { λ r. ⌜ Holds r (listingOf (now (text .entry))) ⌝ }
 {
     let mut cells = [0; 16384];
     let mut memory = [0; 4096];
     let mut protect = [0; 4096];
     let mut journal = [0; 4096];
     let reading = decktext::read(text, &mut cells, &mut memory, &mut protect);
-    match reading {
-        Reading::Refused(number, line) => list_refusal(number, line),
-        Reading::Taken(count) => {
-            let n = count as usize * 4;
-            let limit = 4294967295;
-            let fresh = machine::fresh();
-            list_run(machine::run(
-                fresh,
-                &cells[..n],
-                &mut memory,
-                &protect,
-                &mut journal,
-                limit,
-            ))
-        }
-    }
+    let Reading::Taken(count) = reading else {
+        return list_refusal(decktext::number_of(reading), decktext::line_of(reading));
+    };
+    let n = count as usize * 4;
+    let limit = 4294967295;
+    let fresh = machine::fresh();
+    list_run(machine::run(
+        fresh,
+        &cells[..n],
+        &mut memory,
+        &protect,
+        &mut journal,
+        limit,
+    ))
 }
 
 // A number in decimal, and the byte after it.
@@ -53,8 +49,7 @@ fn with_field(t: Listing, n: u64, after: u8) -> Listing
 }
 
 fn list_refusal(number: u8, line: u32) -> Listing
-    ensures { λ r. ⌜ textOf r ≡ refusal number line ⌝ }
-    ensures { λ r. ⌜ r .length ≤ 320 ⌝ }
+    ensures { λ r. ⌜ Holds r (refusal number line) ⌝ }
 {
     let heading = with_bytes(empty(), b"stop line\n");
     let t = with_field(heading, number as u64, b' ');
@@ -62,8 +57,7 @@ fn list_refusal(number: u8, line: u32) -> Listing
 }
 
 fn list_run(r: Ran) -> Listing
-    ensures { λ t. ⌜ textOf t ≡ listed (r .count) (numberOf (r .stop)) (r .state .registers) ⌝ }
-    ensures { λ t. ⌜ t .length ≤ 320 ⌝ }
+    ensures { λ t. ⌜ Holds t (listed (r .count) (numberOf (r .stop)) (r .state .registers)) ⌝ }
 {
     let s = r.state;
     let g = s.registers;
@@ -71,9 +65,9 @@ fn list_run(r: Ran) -> Listing
     let heading = with_bytes(empty(), b"steps stop next cc mask\n");
     let steps = with_field(heading, r.count as u64, b' ');
     let stopped = with_field(steps, machine::number(stop) as u64, b' ');
-    let next = with_field(stopped, g.pointer as u64, b' ');
-    let code = with_field(next, g.code as u64, b' ');
-    let mask = with_field(code, g.mask as u64, b'\n');
+    let next = with_field(stopped, g.status.pointer as u64, b' ');
+    let condition = with_field(next, g.status.condition as u64, b' ');
+    let mask = with_field(condition, g.status.mask as u64, b'\n');
     let registers = with_bytes(mask, b"reg float general\n");
     with_registers(registers, g)
 }

@@ -1,9 +1,11 @@
 // The bench panel's functions, for C. Those over a lent state copy it out, call the function on
-// values, and store the state that comes back. None has a `requires`.
+// values, and store the state that comes back. None has a `requires`. What a call answers comes back
+// by value, so that a refusal writes nothing at all.
 mod value;
 
 use decktext::Reading;
 use machine::State;
+use value::Answer;
 use value::back_by_value;
 use value::run_by_value;
 use value::step_by_value;
@@ -36,12 +38,12 @@ pub extern "C" fn panel_step(
     ensures { λ r. ⌜ single (machine (now (state .exit)) (now (memory .exit)) (now (journal .exit))) r
         ≡ stepped (now (deck .entry)) (now (protect .entry)) (machine (now (state .entry)) (now (memory .entry)) (now (journal .entry))) ⌝ }
 {
-    let answer = step_by_value(*state, deck, memory, protect, journal);
-    *state = answer.state;
-    answer.number
+    let stepped = step_by_value(*state, deck, memory, protect, journal);
+    *state = stepped.state;
+    stepped.number
 }
 
-// Steps to the limit or to a stop; their count goes behind `count`.
+// Steps to the limit or to a stop; the number is 0 or the stop's, the value the steps taken.
 #[no_mangle]
 pub extern "C" fn panel_run(
     state: &mut State,
@@ -50,15 +52,13 @@ pub extern "C" fn panel_run(
     protect: &[u8],
     journal: &mut [u32],
     limit: u32,
-    count: &mut u32,
-) -> u8
-    ensures { λ r. ⌜ outcome (machine (now (state .exit)) (now (memory .exit)) (now (journal .exit))) (now (count .exit)) r
+) -> Answer
+    ensures { λ r. ⌜ outcome (machine (now (state .exit)) (now (memory .exit)) (now (journal .exit))) (r .value) (r .number)
         ≡ ran (now (deck .entry)) (now (protect .entry)) limit (machine (now (state .entry)) (now (memory .entry)) (now (journal .entry))) ⌝ }
 {
-    let answer = run_by_value(*state, deck, memory, protect, journal, limit);
-    *state = answer.state;
-    *count = answer.count;
-    answer.number
+    let ran = run_by_value(*state, deck, memory, protect, journal, limit);
+    *state = ran.state;
+    ran.answer
 }
 
 // The last step taken back; 0, or the number of the stop.
@@ -72,33 +72,35 @@ pub extern "C" fn panel_back(
     ensures { λ r. ⌜ outcome (machine (now (state .exit)) (now (memory .exit)) (now (journal .exit))) 0 r
         ≡ backed (now (protect .entry)) (machine (now (state .entry)) (now (memory .entry)) (now (journal .entry))) ⌝ }
 {
-    let answer = back_by_value(*state, memory, protect, journal);
-    *state = answer.state;
-    answer.number
+    let stepped = back_by_value(*state, memory, protect, journal);
+    *state = stepped.state;
+    stepped.number
 }
 
-// Reads a deck text; 0 with the order count behind `value`, or the number of the refusal with its
-// line there.
+// Reads a deck text; the number is 0 and the value the order count, or the refusal's number and line.
 #[no_mangle]
 pub extern "C" fn panel_read(
     text: &[u8],
     cells: &mut [u16],
     memory: &mut [u16],
     protect: &mut [u8],
-    value: &mut u32,
-) -> u8
-    ensures { λ r. ⌜ reply (buffers (now (cells .exit)) (now (memory .exit)) (now (protect .exit))) r (now (value .exit))
+) -> Answer
+    ensures { λ r. ⌜ reply (buffers (now (cells .exit)) (now (memory .exit)) (now (protect .exit))) (r .number) (r .value)
         ≡ replied (readText (now (text .entry)) (buffers (now (cells .entry)) (now (memory .entry)) (now (protect .entry)))) ⌝ }
 {
     let reading = decktext::read(text, cells, memory, protect);
     match reading {
-        Reading::Taken(count) => {
-            *value = count;
-            0
-        }
-        Reading::Refused(number, line) => {
-            *value = line;
-            number
-        }
+        Reading::Taken(count) => Answer {
+            number: 0,
+            value: count,
+        },
+        Reading::Malformed(line) => Answer {
+            number: 16,
+            value: line,
+        },
+        Reading::NoRoom(line) => Answer {
+            number: 17,
+            value: line,
+        },
     }
 }

@@ -6,15 +6,21 @@ ghost use Rattle.machine.specs.Step.{single, stepped, outcome};
 ghost use Rattle.machine.specs.Run.{ran};
 ghost use Rattle.machine.specs.Back.{backed};
 
-pub struct Answer {
+pub struct Stepped {
     pub state: State,
     pub number: u8,
 }
 
-pub struct Count {
+// What C receives of a call with two answers: 0 or the number of its refusal, and a count or a line.
+#[repr(C)]
+pub struct Answer {
+    pub number: u32,
+    pub value: u32,
+}
+
+pub struct Ran {
     pub state: State,
-    pub count: u32,
-    pub number: u8,
+    pub answer: Answer,
 }
 
 pub fn step_by_value(
@@ -23,14 +29,14 @@ pub fn step_by_value(
     memory: &mut [u16],
     protect: &[u8],
     journal: &mut [u32],
-) -> Answer
+) -> Stepped
     ensures { λ r. ⌜ single (machine (r .state) (now (memory .exit)) (now (journal .exit))) (r .number)
         ≡ stepped (now (deck .entry)) (now (protect .entry)) (machine s (now (memory .entry)) (now (journal .entry))) ⌝ }
 {
     let r = machine::step(s, deck, memory, protect, journal);
     let state = r.state;
     let stop = r.stop;
-    Answer {
+    Stepped {
         state,
         number: machine::number(stop),
     }
@@ -43,28 +49,28 @@ pub fn run_by_value(
     protect: &[u8],
     journal: &mut [u32],
     limit: u32,
-) -> Count
-    ensures { λ r. ⌜ outcome (machine (r .state) (now (memory .exit)) (now (journal .exit))) (r .count) (r .number)
+) -> Ran
+    ensures { λ r. ⌜ outcome (machine (r .state) (now (memory .exit)) (now (journal .exit))) (r .answer .value) (r .answer .number)
         ≡ ran (now (deck .entry)) (now (protect .entry)) limit (machine s (now (memory .entry)) (now (journal .entry))) ⌝ }
 {
     let r = machine::run(s, deck, memory, protect, journal, limit);
     let state = r.state;
     let stop = r.stop;
-    Count {
-        state,
-        count: r.count,
-        number: machine::number(stop),
-    }
+    let answer = Answer {
+        number: machine::number(stop) as u32,
+        value: r.count,
+    };
+    Ran { state, answer }
 }
 
-pub fn back_by_value(s: State, memory: &mut [u16], protect: &[u8], journal: &mut [u32]) -> Answer
+pub fn back_by_value(s: State, memory: &mut [u16], protect: &[u8], journal: &mut [u32]) -> Stepped
     ensures { λ r. ⌜ outcome (machine (r .state) (now (memory .exit)) (now (journal .exit))) 0 (r .number)
         ≡ backed (now (protect .entry)) (machine s (now (memory .entry)) (now (journal .entry))) ⌝ }
 {
     let r = machine::back(s, memory, protect, journal);
     let state = r.state;
     let stop = r.stop;
-    Answer {
+    Stepped {
         state,
         number: machine::number(stop),
     }

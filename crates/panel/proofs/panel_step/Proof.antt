@@ -41,10 +41,10 @@ use Rattle.machine.specs.declared.state.State.{State}
 use Rattle.machine.specs.Machine.{machine}
 use Rattle.machine.specs.Step.{single, stepped}
 use Rattle.machine.proofs.state.State as T
-use Rattle.panel.specs.declared.value.Answer.{Answer}
+use Rattle.panel.specs.declared.value.Stepped.{Stepped}
 use Rattle.panel.proofs.Lent.{spelled, seen, lent, takes, opens-state, closes-state, skips, says-last, held, read, read-goes, typed-state}
-use Rattle.panel.proofs.value.Answer as R
-use Rattle.panel.proofs.value.Answer.Laws as R′
+use Rattle.panel.proofs.value.Stepped as R
+use Rattle.panel.proofs.value.Stepped.Laws as R′
 use Rattle.panel.proofs.value.step_by_value as step
 use Rattle.panel.proofs.value.step_by_value.Symbol as step-def
 use Rattle.panel.proofs.value.step_by_value.Symbol.{name as #step}
@@ -81,10 +81,10 @@ module _ {M : Type 1} (𝓤 : URA M) (H : Heap 𝓤) (A : Atoms 𝓤) (W : Given
   abbrev Post : Val → SProp 𝓤
   Post = walkOf 𝓤 H A f.ended stayed (f.clauses 𝓤 H A at-mem run) .post (((κ, κs), (q, qs), tt, a, vals), tt)
 
-  abbrev Said : Answer → List ℕ → List ℕ → Type 0
+  abbrev Said : Stepped → List ℕ → List ℕ → Type 0
   Said r m′ j′ = single (machine (r .state) m′ j′) (r .number) ≡ stepped (d .now) (p .now) (machine (x .now) (m .now) (j .now))
 
-  exits : (r : Answer) (m′ j′ : List ℕ) → Said r m′ j′ → length m′ ≡ length (m .now) → length j′ ≡ length (j .now) → Is u8 (r .number) (vint w8 (r .number) ∷ [])
+  exits : (r : Stepped) (m′ j′ : List ℕ) → Said r m′ j′ → length m′ ≡ length (m .now) → length j′ ≡ length (j .now) → Is u8 (r .number) (vint w8 (r .number) ∷ [])
       → ent 𝓤 (sep 𝓤 (sem 𝓤 H A (seen x (r .state))) (sep 𝓤 (sem 𝓤 H A (lent κ x)) (sep 𝓤 (A .lft κ q) (sep 𝓤 (toks 𝓤 A 4 κs qs) (sep 𝓤 (sem 𝓤 H A (finally u32 (j .name) j′)) (sem 𝓤 H A (finally u16 (m .name) m′)))))))
       (Post (vint w8 (r .number)))
   exits r m′ j′ e lm lj fits =
@@ -122,7 +122,7 @@ module _ {M : Type 1} (𝓤 : URA M) (H : Heap 𝓤) (A : Atoms 𝓤) (W : Given
         -- the call
         move ! (30 ∷ 1 ∷ 29 ∷ []) $ use3 W (raw (Step 𝓤 H A at-mem run .pre to-step)) goes-step $
         calls-at ! fm (Step 𝓤 H A at-mem run) known to-step (and-then ! (load ! (from ! (stop !)) (look ! 13 refl)) (and-then ! (load ! (from ! (stop !)) (look ! 23 refl)) (and-then ! (load ! (from ! (stop !)) (look ! 9 refl)) (and-then ! (load ! (from ! (stop !)) (look ! 19 refl)) (and-then ! (load ! (from ! (stop !)) (look ! 5 refl)) (no-more !)))))) (λ v.
-        use1 W (later (some (λ (r : Answer). (raw (toks 𝓤 A 4 κs qs) ⊛ ‵ (R.the-row .own r (v ∷ []))) ⊛ raw (ensured 𝓤 H A step.ended (step.clauses 𝓤 H A at-mem run) κs (x .now, a .1) tt r)))) (id⊢ 𝓤 _) $ await ! tt $ pick ! (λ r.
+        use1 W (later (some (λ (r : Stepped). (raw (toks 𝓤 A 4 κs qs) ⊛ ‵ (R.the-row .own r (v ∷ []))) ⊛ raw (ensured 𝓤 H A step.ended (step.clauses 𝓤 H A at-mem run) κs (x .now, a .1) tt r)))) (id⊢ 𝓤 _) $ await ! tt $ pick ! (λ r.
         -- what it ensures, at the last lists
         split ! $ move ! (1 ∷ []) $ use1 W (some (λ (zs : Unit {0} × (Unit {0} × (List ℕ × (Unit {0} × (List ℕ × Unit {0}))))). ‵ (lasts step.ended κs (x .now, a .1) zs) ⊛ raw (fact 𝓤 (Said r (zs .1 .1 .0) (zs .1 .1 .1 .1 .0))))) (id⊢ 𝓤 _) $ pick ! (λ zs.
         split ! $ move ! (1 ∷ []) $ heard ! (Said r (zs .1 .1 .0) (zs .1 .1 .1 .1 .0)) (λ e.

@@ -1,6 +1,10 @@
 use Rattle.decktext.proofs.Readings.{refusal, taking}
 use Rattle.decktext.specs.Read.{readText}
 use borrow.Author.Tests.{lt-ltb}
+use mathlib.Core.Path.{ap}
+use denote.Enum.Declared.{tagOf}
+use Rattle.decktext.proofs.deck.Reading as reading-type
+use Rattle.decktext.proofs.Tags.{not-first}
 use borrow.Author.Needs.{needs}
 use Rattle.decktext.proofs.deck.read.Statement.{statement}
 use Rattle.decktext.proofs.deck.read.Tie as tie
@@ -15,9 +19,6 @@ walk-requires c κs = search needs
 enum-told : tie.Need-enum-told
 enum-told c = search needs
 
-enum-told-2 : tie.Need-enum-told-2
-enum-told-2 c = search needs
-
 same-length : tie.Need-same-length
 same-length c = search needs
 
@@ -28,7 +29,7 @@ same-length-3 : tie.Need-same-length-3
 same-length-3 c = search needs
 
 returns-2 : tie.Need-returns-2
-returns-2 c = refusal _ _ (c .before .before .before .before .before .before .before .before .walk .ensures) (c .before .before .before .before .before .before .before .before .before .before .before .before .if1 .left) (c .enum-told2 .given .1)
+returns-2 c = refusal (c .before .before .before .before .before .before .before .walk .ensures) (c .before .before .before .before .before .before .before .before .before .before .before .if1 .left) (λ n e. not-first (c .match .keys2) (ap (tagOf reading-type.the-type) e))
 
 walk-requires-2 : tie.Need-walk-requires-2
 walk-requires-2 c κs = search needs
@@ -52,7 +53,6 @@ read-spec =
     returns
     walk-requires
     enum-told
-    enum-told-2
     same-length
     same-length-2
     same-length-3

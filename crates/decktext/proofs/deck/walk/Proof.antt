@@ -1,15 +1,22 @@
-use Rattle.decktext.proofs.Walking.{all, Walking, start, sizes, storable, on, stopped, unfinished, Left, at-end, at-fault, walked}
+use Rattle.decktext.proofs.Walking.{all, Walking, start, sizes, storable, on, stopped, unfinished, Left, at-end, at-malformed, at-fault, walked}
 use Rattle.decktext.proofs.Parsed.{Taking, start as begin, on as on-value, bad}
-use Rattle.decktext.proofs.Forms.{placed-at, values-at, few, judged, faulty-line, real-fault, by-number}
-use Rattle.decktext.specs.Walk.{Stretch, wantedOf, givenOf, saysJudged, progressOf, valueCount, valueAs}
+use Rattle.decktext.proofs.Forms.{placed-at, values-at, few, judged, faulty-line, by-fault, some-fault}
+use Rattle.decktext.specs.declared.fault.Fault.{Fault}
+use Rattle.decktext.specs.Fault.{faultNumber}
+use Rattle.decktext.specs.Walk.{Stretch, wantedOf, givenOf, faultOf, saysJudged, progressOf, valueCount, valueAs}
 use mathlib.Core.List.{List}
 use Rattle.decktext.specs.Read.{Buffers, Wanted, Progress, buffers, faulty, lineRead}
 use Rattle.decktext.specs.Value.{saysValue}
 use Rattle.hexfloat.specs.Answer.{gives, stops}
 use mathlib.Core.Logic.{⊎-elim}
+use denote.Enum.Declared.{tagOf}
+use Rattle.decktext.specs.declared.given.Given.{Given as GivenLine}
+use Rattle.decktext.specs.declared.line.Judged.{Judged}
+use Rattle.decktext.proofs.line.Judged as judged-type
+use Rattle.decktext.proofs.Tags.{not-first}
 use Rattle.decktext.proofs.Lines.{part, length-part}
 use lib.ListN.{length}
-use Prim.Native.Nat.{ℕ, _-_, _<_}
+use Prim.Native.Nat.{ℕ, _+_, _-_, _<_}
 use mathlib.Core.Path.{_≡_, refl, sym, ap, _∙_}
 use native.Mathlib.Omega.{arith}
 use borrow.Author.Needs.{needs}
@@ -17,13 +24,13 @@ use Rattle.decktext.proofs.deck.walk.Statement.{statement}
 use Rattle.decktext.proofs.deck.walk.Tie as tie
 
 abbrev Inv-loop : tie.InvT-loop
-Inv-loop text cells memory protect writes sizes p at line fault₀ end w wanted values₀ from₀ i₀ fault values from i = (fault ≡ fault₀) × Taking (valueAs (wantedOf w)) wanted text at end from i values
+Inv-loop text cells memory protect writes sizes p at line fault₀ found end w wanted values₀ from₀ i₀ fault values from i = (fault ≡ fault₀) × Taking (valueAs (wantedOf w)) wanted text at end from i values
 
 abbrev μ-loop : tie.MeasureT-loop
-μ-loop text cells memory protect writes sizes p at line fault₀ end w wanted values₀ from₀ i₀ fault values from i = wanted - i
+μ-loop text cells memory protect writes sizes p at line fault₀ found end w wanted values₀ from₀ i₀ fault values from i = wanted - i
 
 abbrev Inv-lines : tie.InvT-lines
-Inv-lines text cells₀ memory₀ protect₀ writes sizes p₀ at₀ line₀ fault₀ cells memory protect p at line fault = (fault ≡ 0) × Walking text (buffers cells₀ memory₀ protect₀) sizes writes p at line (buffers cells memory protect)
+Inv-lines text cells₀ memory₀ protect₀ writes sizes p₀ at₀ line₀ fault₀ cells memory protect p at line fault = (fault ≡ Fault.Nothing) × Walking text (buffers cells₀ memory₀ protect₀) sizes writes p at line (buffers cells memory protect)
 
 abbrev μ-lines : tie.MeasureT-lines
 μ-lines text cells₀ memory₀ protect₀ writes sizes p₀ at₀ line₀ fault₀ cells memory protect p at line fault = length text - at
@@ -45,20 +52,23 @@ abbrev wanted-at : tie.At-lines Inv-loop μ-loop Inv-lines μ-lines → Wanted
 wanted-at c = wantedOf (c .lines .p .wanted)
 
 -- the place is inside the text, so the line ends at an LF or at the text's end
-end-at : (c : tie.After-next-line Inv-loop μ-loop Inv-lines μ-lines) → Stretch (text (c .before .before)) (c .before .before .lines .at) (length (text (c .before .before))) 10 (c .next-line .result)
+end-at : (c : tie.After-next-line Inv-loop μ-loop Inv-lines μ-lines) → Stretch (text (c .before .before)) (c .before .before .lines .at) (length (text (c .before .before))) 10 (c .next-line .result .end)
 end-at c = c .next-line .ensures .inside (omega (arith, c .before .lines-test .taken))
 
 -- the line that ends where the LF was found
 abbrev line-at : tie.After-next-line Inv-loop μ-loop Inv-lines μ-lines → List ℕ
-line-at c = part (c .before .before .lines .at) (c .next-line .result) (text (c .before .before))
+line-at c = part (c .before .before .lines .at) (c .next-line .result .end) (text (c .before .before))
 
 -- the line ends within the text
-ended : (c : tie.Else1 Inv-loop μ-loop Inv-lines μ-lines) → c .before .next-line .result < length (text (c .before .before .before))
+ended : (c : tie.Else1 Inv-loop μ-loop Inv-lines μ-lines) → c .before .next-line .result .end < length (text (c .before .before .before))
 ended c = let no = c .if1 .left in omega (arith, end-at (c .before) .high)
+
+past-end : (c : tie.Else1 Inv-loop μ-loop Inv-lines μ-lines) → c .before .next-line .result .next ≡ c .before .next-line .result .end + 1
+past-end c = c .before .next-line .ensures .after (ended c)
 
 -- the count of values, by the line's bytes
 counted : (c : tie.After-values-wanted Inv-loop μ-loop Inv-lines μ-lines) → c .values-wanted .result ≡ valueCount (wanted-at (c .before .before .before .before)) (length (line-at (c .before .before)))
-counted c = c .values-wanted .ensures ∙ ap (λ (n : ℕ). valueCount (wanted-at (c .before .before .before .before)) n) (sym (length-part (c .before .before .before .before .lines .at) (c .before .before .next-line .result) (text (c .before .before .before .before)) (end-at (c .before .before) .low) (end-at (c .before .before) .high)))
+counted c = c .values-wanted .ensures ∙ ap (λ (n : ℕ). valueCount (wanted-at (c .before .before .before .before)) n) (sym (length-part (c .before .before .before .before .lines .at) (c .before .before .next-line .result .end) (text (c .before .before .before .before)) (end-at (c .before .before) .low) (end-at (c .before .before) .high)))
 
 -- what the line is judged to give is what the definition reads
 answer : (c : tie.After-judge Inv-loop μ-loop Inv-lines μ-lines) → lineRead (progress (c .before .before .before .before .before .before .before .before)) (line-at (c .before .before .before .before .before .before)) ≡ saysJudged (c .judge .result)
@@ -78,11 +88,13 @@ bad-value c =
     (bad (c .before .before .before .before .before .before .loop .inv .1) (c .before .before .before .before .before .loop-test .taken) (c .before .before .before .before .find .ensures) (end-at (c .before .before .before .before .before .before .before .before .before) .high) (sym (c .before .before .value .ensures) ∙ ap saysValue (c .enum-told .given .1))))
 
 -- a line that is of another form, or doesn't fit
-numbered : (c : tie.After-fault-of Inv-loop μ-loop Inv-lines μ-lines) → saysJudged (c .before .before .before .judge .result) ≡ stops (c .fault-of .result)
-numbered c = by-number _ _ _ (c .before .enum-told2 .given .1) (c .fault-of .ensures)
+nothing-given : (c : tie.After-fault-of Inv-loop μ-loop Inv-lines μ-lines) (g : GivenLine) → c .before .before .judge .result ≡ Judged.Gives g → ⊥
+nothing-given c g e = not-first (c .before .match2 .keys2) (ap (tagOf judged-type.the-type) e)
 
-bad-line : (c : tie.After-fault-of Inv-loop μ-loop Inv-lines μ-lines) → all (text (c .before .before .before .before .before .before .before .before .before .before .before)) (lent (c .before .before .before .before .before .before .before .before .before .before .before)) ≡ faulty (c .fault-of .result) (c .before .before .before .before .before .before .before .before .before .before .before .lines .line)
-bad-line c = stopped (c .before .before .before .before .before .before .before .before .before .before .before .lines .inv .1) (end-at (c .before .before .before .before .before .before .before .before .before)) (ended (c .before .before .before .before .before .before .before .before)) (c .fault-of .result) (answer (c .before .before .before) ∙ numbered c)
+bad-line : (c : tie.After-fault-of Inv-loop μ-loop Inv-lines μ-lines) → all (text (c .before .before .before .before .before .before .before .before .before .before)) (lent (c .before .before .before .before .before .before .before .before .before .before)) ≡ faulty (faultNumber (c .fault-of .result)) (c .before .before .before .before .before .before .before .before .before .before .lines .line)
+bad-line c =
+    stopped (c .before .before .before .before .before .before .before .before .before .before .lines .inv .1) (end-at (c .before .before .before .before .before .before .before .before)) (ended (c .before .before .before .before .before .before .before)) (faultNumber (c .fault-of .result))
+    (answer (c .before .before) ∙ by-fault (c .before .before .judge .result) (nothing-given c) ∙ ap (λ (f : Fault). stops (faultNumber f)) (sym (c .fault-of .ensures)))
 
 -- what a line gives
 given : (c : tie.After-known-told2 Inv-loop μ-loop Inv-lines μ-lines) → lineRead (progress (c .before .before .before .before .before .before .before .before .before .before .before)) (line-at (c .before .before .before .before .before .before .before .before .before)) ≡ gives (givenOf (c .before .judged .given .0 .0))
@@ -94,14 +106,14 @@ left c =
     ⊎-elim
     (λ w. at-end (c .before .lines .inv .1) (w .0 .left) (c .lines-test .fault) (w .1 ∙ c .before .lines .inv .0))
     (⊎-elim
-    (λ w. at-fault (c .before .lines .inv .1) (c .lines-test .fault) (λ z. let e = w .3 in omega arith) (rw (w .3) (unfinished (c .before .lines .inv .1) (w .1 .ensures .inside (omega (arith, w .0 .taken))) (w .0 .taken) (w .2 .taken))))
+    (λ w. at-malformed (c .before .lines .inv .1) (w .3) (unfinished (c .before .lines .inv .1) (w .1 .ensures .inside (omega (arith, w .0 .taken))) (w .0 .taken) (w .2 .taken)))
     (⊎-elim
     (λ w.
     let d : tie.After-enum-told Inv-loop μ-loop Inv-lines μ-lines = record { before = record { before = record { before = record { before = record { before = record { before = record { before = record { before = record { before = record { before = record { before = c .before; lines-test = w .0 }; next-line = w .1 }; if1 = w .2 }; values-wanted = w .3 }; loop = w .4 }; loop-test = w .5 }; find = w .6 }; value-arg = w .7 }; value = w .8 }; match = w .9 }; enum-told = w .10 } in
-    at-fault (c .before .lines .inv .1) (c .lines-test .fault) (λ z. let e = w .11 in omega arith) (rw (w .11) (bad-value d)))
+    at-malformed (c .before .lines .inv .1) (w .11) (bad-value d))
     (λ w.
-    let d : tie.After-fault-of Inv-loop μ-loop Inv-lines μ-lines = record { before = record { before = record { before = record { before = record { before = record { before = record { before = record { before = record { before = record { before = record { before = c .before; lines-test = w .0 }; next-line = w .1 }; if1 = w .2 }; values-wanted = w .3 }; loop = w .4 }; loop-test = w .5 }; judge-arg = w .6 }; judge = w .7 }; match2 = w .8 }; enum-told2 = w .9 }; fault-of = w .10 } in
-    at-fault (c .before .lines .inv .1) (c .lines-test .fault) (λ z. real-fault (wanted-at (c .before)) (progress (c .before)) (part (c .before .lines .at) (w .1 .result) (text (c .before))) (w .4 .values) (sym (numbered d) ∙ w .7 .ensures (c .before .lines .inv .1 .held) (c .before .lines .inv .1 .sized)) (sym (w .11) ∙ z)) (rw (w .11) (bad-line d)))))
+    let d : tie.After-fault-of Inv-loop μ-loop Inv-lines μ-lines = record { before = record { before = record { before = record { before = record { before = record { before = record { before = record { before = record { before = record { before = c .before; lines-test = w .0 }; next-line = w .1 }; if1 = w .2 }; values-wanted = w .3 }; loop = w .4 }; loop-test = w .5 }; judge-arg = w .6 }; judge = w .7 }; match2 = w .8 }; fault-of = w .9 } in
+    at-fault (c .before .lines .inv .1) (c .lines-test .fault) (λ z. some-fault (w .7 .result) (nothing-given d) (sym (w .9 .ensures) ∙ sym (w .10) ∙ z)) (rw (w .10) (bad-line d)))))
     (c .lines-test .came)
 
 sizes-of-requires : tie.Need-sizes-of-requires Inv-loop μ-loop Inv-lines μ-lines
@@ -123,7 +135,7 @@ values-wanted-requires : tie.Need-values-wanted-requires Inv-loop μ-loop Inv-li
 values-wanted-requires c κs = search needs
 
 loop-holds : tie.Need-loop-holds Inv-loop μ-loop Inv-lines μ-lines
-loop-holds c = (refl, begin (c .values-wanted .result) _ (rw (c .values-wanted .ensures) (few (wanted-at (c .before .before .before .before)) (c .before .before .next-line .result - c .before .before .before .before .lines .at))) (end-at (c .before .before) .low) refl)
+loop-holds c = (refl, begin (c .values-wanted .result) _ (rw (c .values-wanted .ensures) (few (wanted-at (c .before .before .before .before)) (c .before .before .next-line .result .end - c .before .before .before .before .lines .at))) (end-at (c .before .before) .low) refl)
 
 find-requires : tie.Need-find-requires Inv-loop μ-loop Inv-lines μ-lines
 find-requires c κs = (c .before .loop .inv .1 .inside (c .loop-test .taken), end-at (c .before .before .before .before) .high)
@@ -184,9 +196,6 @@ judge-requires c κs = omega (arith, c .before .before .before .before .before .
 enum-known-judged : tie.Need-enum-known-judged Inv-loop μ-loop Inv-lines μ-lines
 enum-known-judged c = search needs
 
-enum-told-2 : tie.Need-enum-told-2 Inv-loop μ-loop Inv-lines μ-lines
-enum-told-2 c = search needs
-
 fault-of-requires : tie.Need-fault-of-requires Inv-loop μ-loop Inv-lines μ-lines
 fault-of-requires c κs = search needs
 
@@ -196,20 +205,17 @@ store-requires c κs = storable (c .before .before .before .before .before .befo
 advance-requires : tie.Need-advance-requires Inv-loop μ-loop Inv-lines μ-lines
 advance-requires c κs = omega (arith, c .before .before .before .before .before .before .before .before .before .before .before .before .before .before .before .before .before .before .before .before .before .lines .inv .1 .orders, c .before .before .before .before .before .before .before .before .before .before .before .before .before .before .before .before .before .before .before .before .lines-test .taken, c .before .before .before .before .before .before .before .before .before .before .before .before .before .before .before .before .before .before .before .before .before .before .before .before .before .before .before .before .pre)
 
-add-at : tie.Need-add-at Inv-loop μ-loop Inv-lines μ-lines
-add-at c = omega (arith, end-at (c .before .before .before .before .before .before .before .before .before .before .before .before .before .before .before .before .before .before .before .before) .high, c .before .before .before .before .before .before .before .before .before .before .before .before .before .before .before .before .before .before .before .before .before .before .before .before .before .before .before .before .before .pre)
-
 add-line : tie.Need-add-line Inv-loop μ-loop Inv-lines μ-lines
 add-line c = omega (arith, c .before .before .before .before .before .before .before .before .before .before .before .before .before .before .before .before .before .before .before .before .before .before .lines .inv .1 .lines, c .before .before .before .before .before .before .before .before .before .before .before .before .before .before .before .before .before .before .before .before .before .before .lines .inv .1 .reach, c .before .before .before .before .before .before .before .before .before .before .before .before .before .before .before .before .before .before .before .before .before .before .before .before .before .before .before .before .before .pre)
 
 lines-less : tie.Need-lines-less Inv-loop μ-loop Inv-lines μ-lines
-lines-less c = omega (arith, end-at (c .before .before .before .before .before .before .before .before .before .before .before .before .before .before .before .before .before .before .before .before) .low, end-at (c .before .before .before .before .before .before .before .before .before .before .before .before .before .before .before .before .before .before .before .before) .high, ended (c .before .before .before .before .before .before .before .before .before .before .before .before .before .before .before .before .before .before .before))
+lines-less c = omega (arith, past-end (c .before .before .before .before .before .before .before .before .before .before .before .before .before .before .before .before .before .before .before), end-at (c .before .before .before .before .before .before .before .before .before .before .before .before .before .before .before .before .before .before .before .before) .low, end-at (c .before .before .before .before .before .before .before .before .before .before .before .before .before .before .before .before .before .before .before .before) .high, ended (c .before .before .before .before .before .before .before .before .before .before .before .before .before .before .before .before .before .before .before))
 
 lines-again : tie.Need-lines-again Inv-loop μ-loop Inv-lines μ-lines
 lines-again c = (
   c .before .before .before .before .before .before .before .before .before .before .before .before .before .before .before .before .before .loop .inv .0 ∙ c .before .before .before .before .before .before .before .before .before .before .before .before .before .before .before .before .before .before .before .before .before .before .lines .inv .0,
   on (c .before .before .before .before .before .before .before .before .before .before .before .before .before .before .before .before .before .before .before .before .before .before .lines .inv .1) (end-at (c .before .before .before .before .before .before .before .before .before .before .before .before .before .before .before .before .before .before .before .before)) (ended (c .before .before .before .before .before .before .before .before .before .before .before .before .before .before .before .before .before .before .before)) (givenOf (c .before .before .before .before .before .before .before .before .before .before .before .before .judged .given .0 .0)) (given (c .before .before .before .before .before .before .before .before .before .before .before))
-      (c .advance .result) (c .advance .ensures) _ (c .before .before .before .before .before .before .before .store .ensures),
+      (c .advance .result) (c .advance .ensures) _ (past-end (c .before .before .before .before .before .before .before .before .before .before .before .before .before .before .before .before .before .before .before)) _ (c .before .before .before .before .before .before .before .store .ensures),
 )
 
 conclude-requires : tie.Need-conclude-requires Inv-loop μ-loop Inv-lines μ-lines
@@ -260,11 +266,9 @@ walk-spec =
     part-judge-end
     judge-requires
     enum-known-judged
-    enum-told-2
     fault-of-requires
     store-requires
     advance-requires
-    add-at
     add-line
     lines-less
     lines-again

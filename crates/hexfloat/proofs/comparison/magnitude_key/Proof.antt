@@ -8,14 +8,14 @@ use Rattle.hexfloat.specs.declared.normal.Normal.{Normal}
 use Rattle.hexfloat.specs.declared.word.Parts.{Parts}
 use Rattle.hexfloat.specs.Operand.{Operand, magnitudeKey, normalised}
 use Rattle.hexfloat.proofs.Digits.{mono}
-use Rattle.hexfloat.proofs.Normalised.{most, place-most}
+use Rattle.hexfloat.proofs.Normalised.{normal-most, place-most}
 use borrow.Author.Needs.{needs}
 use Rattle.hexfloat.proofs.comparison.magnitude_key.Statement.{statement}
 use Rattle.hexfloat.proofs.comparison.magnitude_key.Tie as tie
 
 -- the key of a normalised operand is a u64
 fits : {d : ℕ} {p : Parts} {n : Normal} → Operand d p → n ≡ normalised d p → (n .place ≤ 141) × (n .fraction < 2 ^ 56)
-fits o e = rw e (place-most o, lt-of-lt-of-le (most o) (mono {j = 14} (o .most)))
+fits o e = rw e (place-most o, lt-of-lt-of-le (normal-most o) (mono {j = 14} (o .most)))
 
 returns : tie.Need-returns
 unfolding magnitudeKey

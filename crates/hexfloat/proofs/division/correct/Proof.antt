@@ -2,7 +2,7 @@
 use mathlib.Core.Path.{refl}
 use native.Mathlib.Omega.{arith}
 use borrow.Author.Needs.{needs}
-use Rattle.hexfloat.proofs.Turns.{taken, one-more}
+use Rattle.hexfloat.proofs.Turns.{taken, one-more-taken}
 use Rattle.hexfloat.proofs.division.correct.Statement.{statement}
 use Rattle.hexfloat.proofs.division.correct.Tie as tie
 
@@ -13,7 +13,7 @@ add-t5 : tie.Need-add-t5
 add-t5 c = search needs
 
 returns-2 : tie.Need-returns-2
-returns-2 c = taken _ _ _ (one-more _ _ _ (c .if1 .left)) (omega arith)
+returns-2 c = taken _ _ _ (one-more-taken _ _ _ (c .if1 .left)) (omega arith)
 
 pub correct-spec : {M : Type 1} → statement M
 correct-spec = tie.close (tie.spec returns add-t5 returns-2)

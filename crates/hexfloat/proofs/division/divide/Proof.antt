@@ -11,10 +11,10 @@ use Rattle.hexfloat.specs.Answer.{gives, mapped}
 use Rattle.hexfloat.specs.Word.{digitsOf, wordsOf, magnitude}
 use Rattle.hexfloat.specs.Divide.{quotient, quotientWords}
 use Rattle.hexfloat.specs.Operand.{Operand, IsPlaced}
-use Rattle.hexfloat.proofs.Divided.{Ready, left, right, few, ratio-placed, in-words}
+use Rattle.hexfloat.proofs.Divided.{Ready, dividend-bounds, divisor-bounds, lead-few, ratio-placed, in-words}
 use Rattle.hexfloat.proofs.Fits.{parts-fit, width-fits, no-bits, fraction-most}
 use Rattle.hexfloat.proofs.Keys.{zero-is-zero}
-use Rattle.hexfloat.proofs.Normalised.{positive}
+use Rattle.hexfloat.proofs.Normalised.{magnitude-positive}
 use Rattle.hexfloat.proofs.Results.{by-zero, by-some, of-zero}
 use Rattle.hexfloat.proofs.division.divide.Statement.{statement}
 use Rattle.hexfloat.proofs.division.divide.Tie as tie
@@ -88,7 +88,7 @@ returns-2 c =
     let s = c .before .before .before .before in
     ap gives (sym (no-bits (w s)))
     ∙ ap (mapped (wordsOf (w s)))
-    (sym (by-some _ (mask s) (x s) (y s) (positive (fits-y s) (pos-of-ne-zero (c .before .before .if1 .left))) ∙ of-zero _ _ _ _ _ (zero-is-zero (fits-x s) (c .if2 .taken))))
+    (sym (by-some _ (mask s) (x s) (y s) (magnitude-positive (fits-y s) (pos-of-ne-zero (c .before .before .if1 .left))) ∙ of-zero _ _ _ _ _ (zero-is-zero (fits-x s) (c .if2 .taken))))
     ∙ said s
 
 digits-of-requires : tie.Need-digits-of-requires
@@ -104,26 +104,26 @@ leads-requires : tie.Need-leads-requires
 leads-requires c κs = search needs
 
 sub-leading-digits : tie.Need-sub-leading-digits
-sub-leading-digits c = omega (arith, few (ready c), d-is c, width-fits (w (parts c)))
+sub-leading-digits c = omega (arith, lead-few (ready c), d-is c, width-fits (w (parts c)))
 
 leading-digits-requires : tie.Need-leading-digits-requires
 leading-digits-requires c κs =
     record {
       few = omega (arith, d-is c);
-      many = omega (arith, d-is c, few (ready c));
-      dividend = left (ready c) .most;
-      divisor = right (ready c) .most;
-      normal = right (ready c) .least;
+      many = omega (arith, d-is c, lead-few (ready c));
+      dividend = dividend-bounds (ready c) .most;
+      divisor = divisor-bounds (ready c) .most;
+      normal = divisor-bounds (ready c) .least;
     }
 
 add-sign : tie.Need-add-sign
 add-sign c = omega (arith, fits-x (parts (c .before .before .before)) .sign, fits-y (parts (c .before .before .before)) .sign)
 
 add-limited : tie.Need-add-limited
-add-limited c = omega (arith, left (ready (c .before .before .before .before)) .place)
+add-limited c = omega (arith, dividend-bounds (ready (c .before .before .before .before)) .place)
 
 add-limited-2 : tie.Need-add-limited-2
-add-limited-2 c = omega (arith, left (ready (c .before .before .before .before)) .place, few (ready (c .before .before .before .before)))
+add-limited-2 c = omega (arith, dividend-bounds (ready (c .before .before .before .before)) .place, lead-few (ready (c .before .before .before .before)))
 
 limited-requires : tie.Need-limited-requires
 limited-requires c κs = (omega arith, fraction-most (placed (c .before .before .before) .characteristic) (placed (c .before .before .before) .fraction))
@@ -132,7 +132,7 @@ returns-3 : tie.Need-returns-3
 returns-3 c =
     let l = c .before .before .before .before in
     let s = parts (l .before) in
-    let some : 0 < magnitude (digitsOf (w s)) (y s) = right (ready (l .before)) .positive in
+    let some : 0 < magnitude (digitsOf (w s)) (y s) = divisor-bounds (ready (l .before)) .positive in
     c .limited .ensures (magnitude (digitsOf (w s)) (x s)) (magnitude (digitsOf (w s)) (y s)) some (placed l)
     ∙ ap (mapped (wordsOf (w s))) (sym (by-some _ (mask s) (x s) (y s) some))
     ∙ said s

@@ -5,7 +5,7 @@ use native.Mathlib.Nat.{lt-of-le-of-lt, mod-eq-of-lt, div-mul-le-self, div-le-se
 use native.Mathlib.Omega.{arith}
 use Rattle.hexfloat.specs.Operand.{Turning, turnOf}
 use Rattle.hexfloat.proofs.Digits.{four-bits}
-use Rattle.hexfloat.proofs.Turns.{under, enough, up, kept, few, left-near, fits}
+use Rattle.hexfloat.proofs.Turns.{under, enough, up, kept, estimate-few, remaining-near, shifted-fits}
 use borrow.Author.Needs.{needs}
 use Rattle.hexfloat.proofs.division.take_turn.Statement.{statement}
 use Rattle.hexfloat.proofs.division.take_turn.Tie as tie
@@ -33,7 +33,7 @@ module _ (c : tie.Start) where
   divisor-whole = mod-eq-of-lt (lt-of-le-of-lt (div-mul-le-self b (16 ^ k)) (omega (arith, c .pre .divisor)))
 
   high-whole : up k rest b e t refl * 16 ^ k % 18446744073709551616 ≡ up k rest b e t refl * 16 ^ k
-  high-whole = mod-eq-of-lt (fits k rest b e t refl)
+  high-whole = mod-eq-of-lt (shifted-fits k rest b e t refl)
 
 sub-e : tie.Need-sub-e
 sub-e c = search needs
@@ -93,7 +93,7 @@ shl-correct : tie.Need-shl-correct
 shl-correct c = search needs
 
 mul-correct-2 : tie.Need-mul-correct-2
-mul-correct-2 c = rw (four-bits (k c - 2), four-bits (k c), dividend-whole c, divisor-whole c) (record { fits = lt-of-le-of-lt (enough (k c) (rest c) (b c) (e c) (t c) refl) (fits (k c) (rest c) (b c) (e c) (t c) refl) })
+mul-correct-2 c = rw (four-bits (k c - 2), four-bits (k c), dividend-whole c, divisor-whole c) (record { fits = lt-of-le-of-lt (enough (k c) (rest c) (b c) (e c) (t c) refl) (shifted-fits (k c) (rest c) (b c) (e c) (t c) refl) })
 
 sub-correct : tie.Need-sub-correct
 sub-correct c = rw (four-bits (k c - 2), four-bits (k c), dividend-whole c, divisor-whole c, high-whole c) (enough (k c) (rest c) (b c) (e c) (t c) refl)
@@ -101,7 +101,7 @@ sub-correct c = rw (four-bits (k c - 2), four-bits (k c), dividend-whole c, divi
 correct-requires : tie.Need-correct-requires
 correct-requires c κs =
     rw (four-bits (k c - 2), four-bits (k c), dividend-whole c, divisor-whole c, high-whole c)
-    (record { fits = few (k c) (rest c) (b c) (e c) (t c) refl; near = left-near (k c) (rest c) (b c) (e c) (t c) refl })
+    (record { fits = estimate-few (k c) (rest c) (b c) (e c) (t c) refl; near = remaining-near (k c) (rest c) (b c) (e c) (t c) refl })
 
 returns : tie.Need-returns
 returns c =

@@ -4,9 +4,9 @@ use native.Mathlib.Nat.{le-trans, le-of-eq}
 use lib.ListN.{length}
 use lib.Seq.{length-take-le}
 use Rattle.decktext.specs.declared.deck.Reading.{Reading}
-use Rattle.decktext.specs.Read.{Buffers, Outcome, buffers, outcome, saysReading, readText}
-use Rattle.decktext.proofs.Laws.{taken-fits}
-use Rattle.listing.specs.Listing.{blank, shown}
+use Rattle.decktext.specs.Read.{Buffers, Outcome, buffers, outcome, Said, refused, saysReading, readText}
+use Rattle.decktext.proofs.Laws.{refused-said, taken-fits}
+use Rattle.listing.specs.Listing.{blank, listedRun}
 use Rattle.listing.proofs.Answers.{of-refused, of-taken}
 use borrow.Author.Needs.{needs}
 use Rattle.listing.proofs.listing.answer.Statement.{statement}
@@ -41,11 +41,23 @@ read-requires c κs = search needs
 enum-known-reading : tie.Need-enum-known-reading
 enum-known-reading c = search needs
 
+number-of-requires : tie.Need-number-of-requires
+number-of-requires c κs = search needs
+
+line-of-requires : tie.Need-line-of-requires
+line-of-requires c κs = search needs
+
 list-refusal-requires : tie.Need-list-refusal-requires
 list-refusal-requires c κs = search needs
 
-enum-known-reading-2 : tie.Need-enum-known-reading-2
-enum-known-reading-2 c = search needs
+-- the number and the line of a text that is refused
+refused-with : (c : tie.After-list-refusal) → refused (c .before .before .number-of .result) (c .before .line-of .result) ≡ saysReading (c .before .before .before .before .before .before .before .read .result)
+refused-with c = rw (c .before .before .number-of .ensures, c .before .line-of .ensures) (sym (refused-said (c .before .before .before .before .before .before .before .read .result) (c .before .before .before .match .keys2)))
+
+returns : tie.Need-returns
+returns c =
+    rw (of-refused _ _ (c .before .before .number-of .result) (c .before .line-of .result) (ap (λ (s : Said). outcome (kept-of (c .before .before .before .before .before .before .before)) s) (refused-with c) ∙ was-read (c .before .before .before .before .before .before .before)))
+    at (c .list-refusal .ensures)
 
 cast-n : tie.Need-cast-n
 cast-n c = search needs
@@ -57,10 +69,10 @@ fresh-requires : tie.Need-fresh-requires
 fresh-requires c κs = search needs
 
 array-share-prefix-cells : tie.Need-array-share-prefix-cells
-array-share-prefix-cells c = fits (c .before .before .before .before .before .before .before) (c .before .before .reading2 .given .0 .0) (c .before .before .reading2 .given .1)
+array-share-prefix-cells c = fits (c .before .before .before .before .before .before .before) (c .before .before .reading .given .0 .0) (c .before .before .reading .given .1)
 
 slice-aggregate-run : tie.Need-slice-aggregate-run
-slice-aggregate-run c = sym (length-take-le _ _ (fits (c .before .before .before .before .before .before .before .before) _ (c .before .before .before .reading2 .given .1)))
+slice-aggregate-run c = sym (length-take-le _ _ (fits (c .before .before .before .before .before .before .before .before) _ (c .before .before .before .reading .given .1)))
 
 slice-aggregate-run-2 : tie.Need-slice-aggregate-run-2
 slice-aggregate-run-2 c = search needs
@@ -77,20 +89,11 @@ run-requires c κs = search needs
 list-run-requires : tie.Need-list-run-requires
 list-run-requires c κs = search needs
 
-returns : tie.Need-returns
-returns c = (
-  c .list-refusal .ensures .0
-      ∙ of-refused _ _ _ _ (ap (λ (r : Reading). outcome (kept-of (c .before .before .before .before .before .before .before)) (saysReading r)) (sym (c .before .before .reading .given .1)) ∙ was-read (c .before .before .before .before .before .before .before)),
-  c .list-refusal .ensures .1,
-)
-
 returns-2 : tie.Need-returns-2
-returns-2 c = (
-  c .list-run .ensures .0
-      ∙ ap shown (rw (c .before .before .before .before .before .before .before .before .fresh .ensures) at (c .before .before .before .run .ensures))
-      ∙ of-taken _ (kept-of (c .before .before .before .before .before .before .before .before .before .before .before .before .before .before .before)) _ (ap (λ (r : Reading). outcome (kept-of (c .before .before .before .before .before .before .before .before .before .before .before .before .before .before .before)) (saysReading r)) (sym (c .before .before .before .before .before .before .before .before .before .before .reading2 .given .1)) ∙ was-read (c .before .before .before .before .before .before .before .before .before .before .before .before .before .before .before)),
-  c .list-run .ensures .1,
-)
+returns-2 c =
+    rw (ap listedRun (rw (c .before .before .before .before .before .before .before .before .fresh .ensures) at (c .before .before .before .run .ensures))
+    ∙ of-taken _ (kept-of (c .before .before .before .before .before .before .before .before .before .before .before .before .before .before .before)) _ (ap (λ (r : Reading). outcome (kept-of (c .before .before .before .before .before .before .before .before .before .before .before .before .before .before .before)) (saysReading r)) (sym (c .before .before .before .before .before .before .before .before .before .before .reading .given .1)) ∙ was-read (c .before .before .before .before .before .before .before .before .before .before .before .before .before .before .before)))
+    at (c .list-run .ensures)
 
 pub answer-spec : {M : Type 1} → statement M
 answer-spec =
@@ -101,8 +104,10 @@ answer-spec =
     slice-aggregate-read-3
     read-requires
     enum-known-reading
+    number-of-requires
+    line-of-requires
     list-refusal-requires
-    enum-known-reading-2
+    returns
     cast-n
     mul-n
     fresh-requires
@@ -113,5 +118,4 @@ answer-spec =
     slice-aggregate-run-4
     run-requires
     list-run-requires
-    returns
     returns-2)

@@ -22,10 +22,10 @@ with-field-requires-2 c κs = search needs
 
 returns : tie.Need-returns
 unfolding refusal
-returns c = (
-  whole (c .before .before .before .before .empty .ensures .0) (then (c .before .before .with-bytes .ensures) (then (c .before .with-field .ensures .0) (c .with-field2 .ensures .0))),
-  omega (arith, c .with-field2 .ensures .1, c .before .with-field .ensures .1, c .before .before .with-bytes .ensures .size, c .before .before .before .before .empty .ensures .1),
-)
+returns c =
+    whole (c .before .before .before .before .empty .ensures .0) (then (c .before .before .with-bytes .ensures) (then (c .before .with-field .ensures .0) (c .with-field2 .ensures .0)))
+    (omega (arith, c .with-field2 .ensures .1, c .before .with-field .ensures .1, c .before .before .with-bytes .ensures .size, c .before .before .before .before .empty .ensures .1))
+    (search needs)
 
 pub list-refusal-spec : {M : Type 1} → statement M
 list-refusal-spec =

@@ -1,0 +1,139 @@
+-- One of the numbers, and the reader's count.
+use Prim.Native.Nat.{ℕ, _+_, _*_, _<_}
+use mathlib.Core.Path.{_≡_, refl, sym, ap, _∙_}
+use mathlib.Core.Logic.{⊎-elim, inl, inr}
+use mathlib.Core.Bool.{Bool, true, false, cond}
+use mathlib.Core.List.{List, [], _∷_}
+use native.Mathlib.Omega.{arith}
+use lib.Dec.{leb, ltb}
+use lib.ListN.{length}
+use borrow.Author.Tests.{ltb-true, ltb-false}
+use Rattle.hexfloat.specs.Answer.{gives, stops}
+use Rattle.machine.specs.declared.order.Order.{Order}
+use Rattle.machine.specs.Says.{provided, andThen}
+use Rattle.machine.proofs.Answers.{gives-inj, provided-gives}
+use Rattle.decktext.specs.Text.{Line, ended, unended, linesOf, same}
+use Rattle.decktext.specs.Format.{deckHeading, storageHeading, orderOf, halfwordOf}
+use Rattle.decktext.specs.Read.{Buffers, refused, taken, outcome, Wanted, heading, order, storage, halfword, Progress, start, Given, headed, ordered, parted, stored, orderFits, halfwordFits, lineAs, lineRead, advanced, Read, whole, faulty, linesRead, settled, readText}
+use Rattle.decktext.specs.Theorems.{Through, Faulty, Numbered, count, malformed, noRoom, aboveLimit, upToEmpty, afterFirst, orderLines}
+use Rattle.decktext.proofs.Answers.{Is16or17, Only, only-either, only-provided, only-and-then, only-cond, and-then-gives}
+use Rattle.decktext.proofs.Forms.{Sound, order-only, halfword-only}
+use Rattle.decktext.proofs.Laws.{accepted}
+use Rattle.decktext.proofs.Passing.{read-on, through, first-fault, line-sound}
+use Rattle.decktext.proofs.Walking.{all, other}
+
+-- ---- one of the numbers
+
+room-only : (ok : Bool) (g : Given) → Only Is16or17 (provided ok 17 (gives g))
+room-only ok g = only-provided Is16or17 ok 17 (gives g) (inr refl) tt
+
+halfword-fits-only : (rises memory protect : Bool) (g : Given) → Only Is16or17 (provided rises 16 (provided memory 17 (provided protect 17 (gives g))))
+halfword-fits-only rises memory protect g =
+    only-provided Is16or17 rises 16 (provided memory 17 (provided protect 17 (gives g))) (inl refl)
+    (only-provided Is16or17 memory 17 (provided protect 17 (gives g)) (inr refl) (room-only protect g))
+
+line-only : (w : Wanted) (p : Progress) (l : List ℕ) → Only Is16or17 (lineAs w p l)
+line-only heading p l = only-provided Is16or17 (same l deckHeading) 16 (gives headed) (inl refl) tt
+line-only order p l =
+    only-cond Is16or17 (same l []) (gives parted) (andThen (orderOf l) (orderFits p)) tt
+    (only-and-then Is16or17 (orderOf l) (orderFits p) (only-either (orderOf l) (order-only l)) (λ o.
+    room-only (leb (p .count * 4 + 4) (length (p .held .cells))) (ordered o)))
+line-only storage p l = only-provided Is16or17 (same l storageHeading) 16 (gives headed) (inl refl) tt
+line-only halfword p l =
+    only-and-then Is16or17 (halfwordOf l) (halfwordFits p) (only-either (halfwordOf l) (halfword-only l)) (λ h.
+    halfword-fits-only (leb (p .least) (h .at)) (ltb (h .at) (length (p .held .memory))) (ltb (h .at) (length (p .held .protect))) (stored h))
+
+fault-number : (ls : List Line) (p : Progress) (n : ℕ) → Faulty ls p n → Is16or17 n
+unfolding lineRead
+fault-number [] p n f = inl (f .1)
+fault-number (unended l ∷ ls) p n f = inl f
+fault-number (ended l ∷ ls) p n f = rw f at (line-only (p .wanted) p l)
+
+numbered-by : (t : List ℕ) (b : Buffers) (limit : Bool) (x : Read) → ltb 32768 (length t) ≡ limit → all t b ≡ x
+    → Numbered t (cond limit (outcome b (refused 17 0)) (settled b x) .said)
+numbered-by t b true x l e = aboveLimit (ltb-true 32768 (length t) l)
+numbered-by t b false (whole p) l e = count (p .count) (ltb-false 32768 (length t) l)
+numbered-by t b false (faulty n k) l e =
+    let f = first-fault (linesOf t) (start b) 1 n k e in
+    let up : 0 < k = omega (arith, f .number) in
+    let within = ltb-false 32768 (length t) l in
+    ⊎-elim (λ s. rw s (malformed k up within)) (λ s. rw s (noRoom k up within)) (fault-number (f .rest) (f .reached) n (f .faulty))
+
+pub numbered : (t : List ℕ) (b : Buffers) → Numbered t (readText t b .said)
+unfolding readText
+numbered t b = numbered-by t b (ltb 32768 (length t)) (all t b) refl refl
+
+-- ---- the reader's count
+
+-- after the order lines
+abbrev Past : Wanted → Type 0
+Past heading = ⊥
+Past order = ⊥
+Past storage = Unit {0}
+Past halfword = Unit {0}
+
+past-on : (w : Wanted) (p : Progress) (g : Given) → p .wanted ≡ w → Past w → Sound w p g → (advanced g p .count ≡ p .count) × Past (advanced g p .wanted)
+unfolding advanced
+past-on heading p g e past s = absurd past
+past-on order p g e past s = absurd past
+past-on storage p headed e past s = (refl, rw e tt)
+past-on storage p (ordered o) e past s = absurd s
+past-on storage p parted e past s = absurd s
+past-on storage p (stored h) e past s = absurd s
+past-on halfword p headed e past s = absurd s
+past-on halfword p (ordered o) e past s = absurd s
+past-on halfword p parted e past s = absurd s
+past-on halfword p (stored h) e past s = (refl, tt)
+
+past-count : (ls : List Line) (p q : Progress) → Past (p .wanted) → Through ls p q → q .count ≡ p .count
+past-count [] p q past h = ap (λ (x : Progress). x .count) (sym h)
+past-count (unended l ∷ ls) p q past h = absurd h
+past-count (ended l ∷ ls) p q past h =
+    let s = past-on (p .wanted) p (h .0) refl past (line-sound p l (h .0) (h .1)) in
+    past-count ls (advanced (h .0) p) q (s .1) (h .2) ∙ s .0
+
+-- where an order is wanted, an empty line ends the orders, and any other is one
+empty-line : (p : Progress) (g : Given) → p .wanted ≡ order → lineRead p [] ≡ gives g → g ≡ parted
+unfolding lineRead same
+empty-line p g e h = sym (gives-inj (rw e at h))
+
+order-line : (p : Progress) (b : ℕ) (l : List ℕ) (g : Given) → p .wanted ≡ order → lineRead p (b ∷ l) ≡ gives g → (o : Order) × (g ≡ ordered o)
+unfolding lineRead same
+order-line p b l g e h =
+    let q = and-then-gives (orderOf (b ∷ l)) (orderFits p) (rw e at h) in
+    (q .0, sym (gives-inj (provided-gives (leb (p .count * 4 + 4) (length (p .held .cells))) 17 (gives (ordered (q .0))) (q .2) .1)))
+
+orders-count : (ls : List Line) (p q : Progress) → p .wanted ≡ order → Through ls p q → q .count ≡ p .count + length (upToEmpty ls)
+unfolding advanced
+orders-count [] p q e h = let z = ap (λ (x : Progress). x .count) h in omega arith
+orders-count (unended l ∷ ls) p q e h = absurd h
+orders-count (ended [] ∷ ls) p q e h =
+    let r : Through ls (advanced parted p) q = rw (empty-line p (h .0) e (h .1)) at (h .2) in
+    let z = past-count ls (advanced parted p) q tt r in
+    omega arith
+orders-count (ended (b ∷ l) ∷ ls) p q e h =
+    let o = order-line p b l (h .0) e (h .1) in
+    let r : Through ls (advanced (ordered (o .0)) p) q = rw (o .1) at (h .2) in
+    let z = orders-count ls (advanced (ordered (o .0)) p) q refl r in
+    omega arith
+
+heading-line : (p : Progress) (g : Given) → Sound heading p g → g ≡ headed
+heading-line p headed s = refl
+heading-line p (ordered o) s = absurd s
+heading-line p parted s = absurd s
+heading-line p (stored h) s = absurd s
+
+text-count : (ls : List Line) (b : Buffers) (q : Progress) → linesRead ls (start b) 1 ≡ whole q → q .count ≡ length (upToEmpty (afterFirst ls))
+unfolding linesRead advanced
+text-count [] b q h = other h
+text-count (unended l ∷ ls) b q h = other h
+text-count (ended l ∷ ls) b q h =
+    let r = read-on (lineRead (start b) l) (start b) q 1 (λ x. linesRead ls x 2) h in
+    let s : linesRead ls (advanced headed (start b)) 2 ≡ whole q = rw (heading-line (start b) (r .0) (line-sound (start b) l (r .0) (r .1))) at (r .2) in
+    let z = orders-count ls (advanced headed (start b)) q refl (through ls (advanced headed (start b)) q 2 s) in
+    omega arith
+
+pub counted : (t : List ℕ) (b : Buffers) (n : ℕ) → readText t b .said ≡ taken n → n ≡ length (orderLines t)
+counted t b n h =
+    let a = accepted t b n h in
+    sym (a .count) ∙ text-count (linesOf t) b (a .given) (a .lines)
