@@ -3,12 +3,24 @@ use crate::reference::State;
 
 #[repr(C)]
 #[derive(Clone, Copy)]
+struct Status {
+    condition: u8,
+    mask: u8,
+    pointer: u16,
+}
+
+#[repr(C)]
+#[derive(Clone, Copy)]
 pub struct Registers {
     float: [u32; 8],
     general: [u32; 8],
-    code: u8,
-    mask: u8,
-    pointer: u16,
+    status: Status,
+}
+
+#[repr(C)]
+struct Answer {
+    number: u32,
+    value: u32,
 }
 
 #[repr(C)]
@@ -42,8 +54,7 @@ extern "C" {
         journal: *mut u32,
         journal_len: usize,
         limit: u32,
-        count: *mut u32,
-    ) -> u8;
+    ) -> Answer;
     fn panel_back(
         state: *mut Lent,
         memory: *mut u16,
@@ -62,21 +73,21 @@ extern "C" {
         memory_len: usize,
         protect: *mut u8,
         protect_len: usize,
-        value: *mut u32,
-    ) -> u8;
+    ) -> Answer;
 }
 
 impl From<State> for Lent {
     fn from(s: State) -> Lent {
         let State { float, general, code, mask, pointer, used } = s;
-        Lent { registers: Registers { float, general, code, mask, pointer }, used }
+        let status = Status { condition: code, mask, pointer };
+        Lent { registers: Registers { float, general, status }, used }
     }
 }
 
 impl From<Lent> for State {
     fn from(l: Lent) -> State {
-        let Registers { float, general, code, mask, pointer } = l.registers;
-        State { float, general, code, mask, pointer, used: l.used }
+        let Registers { float, general, status } = l.registers;
+        State { float, general, code: status.condition, mask: status.mask, pointer: status.pointer, used: l.used }
     }
 }
 
@@ -110,8 +121,7 @@ pub fn run(
     journal: &mut [u32],
     limit: u32,
 ) -> (u32, u8) {
-    let mut count = 0xDEAD_BEEF;
-    let stop = unsafe {
+    let a = unsafe {
         panel_run(
             s,
             deck.as_ptr(),
@@ -123,10 +133,9 @@ pub fn run(
             journal.as_mut_ptr(),
             journal.len(),
             limit,
-            &mut count,
         )
     };
-    (count, stop)
+    (a.value, a.number as u8)
 }
 
 #[inline]
@@ -146,8 +155,7 @@ pub fn back(s: &mut Lent, memory: &mut [u16], protect: &[u8], journal: &mut [u32
 
 #[inline]
 pub fn read(text: &[u8], cells: &mut [u16], memory: &mut [u16], protect: &mut [u8]) -> Result<u32, (u8, u32)> {
-    let mut value = 0xDEAD_BEEF;
-    let number = unsafe {
+    let a = unsafe {
         panel_read(
             text.as_ptr(),
             text.len(),
@@ -157,11 +165,10 @@ pub fn read(text: &[u8], cells: &mut [u16], memory: &mut [u16], protect: &mut [u
             memory.len(),
             protect.as_mut_ptr(),
             protect.len(),
-            &mut value,
         )
     };
-    match number {
-        0 => Ok(value),
-        n => Err((n, value)),
+    match a.number {
+        0 => Ok(a.value),
+        n => Err((n as u8, a.value)),
     }
 }

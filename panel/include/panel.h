@@ -1,8 +1,9 @@
 /* The AP-101S floating desk for the bench panel: link with libpanel.a (`rt staticlib panel`).
  *
- * Every function takes any content and any lengths that its types allow, and returns 0 or one of the numbers of the
- * README's table. A refusal leaves the state and every buffer as they were. A pointer with length 0 may be anything that
- * is aligned; no two lent buffers overlap. Nothing is kept between calls.
+ * Every function takes any content and any lengths that its types allow, and answers 0 or one of the numbers of the
+ * README's table. A refused step, back step or text leaves the state and every buffer as they were; a run that is stopped
+ * keeps the steps that it took before. What a call answers comes back by value. A pointer with length 0 may be anything
+ * that is aligned; no two lent buffers overlap. Nothing is kept between calls.
  */
 #ifndef PANEL_H
 #define PANEL_H
@@ -10,13 +11,17 @@
 #include <stddef.h>
 #include <stdint.h>
 
+typedef struct {
+    uint8_t condition; /* condition code: 0, 1 or 3 */
+    uint8_t mask;      /* underflow mask: 0 or 1 */
+    uint16_t pointer;  /* the order that comes next */
+} panel_status;
+
 /* What one user's orders see. A fresh one is all zero. */
 typedef struct {
     uint32_t floats[8];   /* float registers */
     uint32_t generals[8]; /* general registers */
-    uint8_t code;         /* condition code: 0, 1 or 3 */
-    uint8_t mask;         /* underflow mask: 0 or 1 */
-    uint16_t pointer;     /* the order that comes next */
+    panel_status status;
 } panel_registers;
 
 typedef struct {
@@ -24,7 +29,13 @@ typedef struct {
     uint32_t used; /* records of the journal in use */
 } panel_state;
 
-/* Makes the state fresh. */
+/* What a run or a reading answers. */
+typedef struct {
+    uint32_t number; /* 0, or the number of the stop or refusal */
+    uint32_t value;  /* a run's steps taken; a reading's order count, or the line of its refusal */
+} panel_answer;
+
+/* Makes the state fresh. Returns nothing. */
 void panel_fresh(panel_state *state);
 
 /* Takes one step. Returns 0, or the number of the stop (1 to 13); a stop leaves everything as it was.
@@ -33,19 +44,19 @@ void panel_fresh(panel_state *state);
 uint8_t panel_step(panel_state *state, const uint16_t *deck, size_t deck_cells, uint16_t *memory, size_t memory_halfwords,
                    const uint8_t *protect, size_t protect_bytes, uint32_t *journal, size_t journal_words);
 
-/* Steps until `limit` steps are taken or one is stopped; the steps taken go to *count. Returns 0, or the number of the
- * stop (1 to 13); the stopped step leaves everything, earlier steps stand. */
-uint8_t panel_run(panel_state *state, const uint16_t *deck, size_t deck_cells, uint16_t *memory, size_t memory_halfwords,
-                  const uint8_t *protect, size_t protect_bytes, uint32_t *journal, size_t journal_words, uint32_t limit,
-                  uint32_t *count);
+/* Steps until `limit` steps are taken or one is stopped. The number is 0, or the stop's (1 to 13); the value is the steps
+ * taken. The stopped step leaves everything, earlier steps stand. */
+panel_answer panel_run(panel_state *state, const uint16_t *deck, size_t deck_cells, uint16_t *memory, size_t memory_halfwords,
+                       const uint8_t *protect, size_t protect_bytes, uint32_t *journal, size_t journal_words,
+                       uint32_t limit);
 
 /* Takes the last step back. Returns 0, or 2, 3, 14 or 15; a refusal leaves everything as it was. */
 uint8_t panel_back(panel_state *state, uint16_t *memory, size_t memory_halfwords, const uint8_t *protect,
                    size_t protect_bytes, uint32_t *journal, size_t journal_words);
 
-/* Reads a deck text into cells, memory and protect list. Returns 0 with the order count in *value, or 16 or 17 with the
- * line in *value; a refused text writes nothing else. */
-uint8_t panel_read(const uint8_t *text, size_t text_bytes, uint16_t *cells, size_t cells_count, uint16_t *memory,
-                   size_t memory_halfwords, uint8_t *protect, size_t protect_bytes, uint32_t *value);
+/* Reads a deck text into cells, memory and protect list. The number is 0 and the value the order count, or the number is
+ * 16 or 17 and the value the line; a refused text writes nothing. */
+panel_answer panel_read(const uint8_t *text, size_t text_bytes, uint16_t *cells, size_t cells_count, uint16_t *memory,
+                        size_t memory_halfwords, uint8_t *protect, size_t protect_bytes);
 
 #endif

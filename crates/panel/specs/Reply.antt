@@ -1,4 +1,4 @@
--- A reading as C sees it: a number, and a value behind a pointer (document 01, causes 16 and 17).
+-- A reading as C sees it: a number and a value (document 01, causes 16 and 17).
 use Prim.Native.Nat.{ℕ}
 use Rattle.decktext.specs.Read.{Buffers, Said, taken, refused, Outcome}
 

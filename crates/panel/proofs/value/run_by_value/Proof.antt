@@ -1,7 +1,5 @@
--- `panel::value::run_by_value` meets its contract: the stop's number stands for the stop.
+-- `panel::value::run_by_value` meets its contract: by the callees.
 -- Assumes nothing.
-use mathlib.Core.Path.{_∙_, ap}
-use Rattle.machine.specs.Step.{outcome}
 use borrow.Author.Needs.{needs}
 use Rattle.panel.proofs.value.run_by_value.Statement.{statement}
 use Rattle.panel.proofs.value.run_by_value.Tie as tie
@@ -12,6 +10,9 @@ run-requires c κs = search needs
 number-requires : tie.Need-number-requires
 number-requires c κs = search needs
 
+cast-t16 : tie.Need-cast-t16
+cast-t16 c = search needs
+
 same-length : tie.Need-same-length
 same-length c = search needs
 
@@ -19,7 +20,8 @@ same-length-2 : tie.Need-same-length-2
 same-length-2 c = search needs
 
 returns : tie.Need-returns
-returns c = ap (outcome _ _) (c .number .ensures) ∙ c .before .before .before .before .before .before .run .ensures
+returns c = rw (c .number .ensures) (c .before .before .before .before .before .before .run .ensures)
 
 pub run-by-value-spec : {M : Type 1} → statement M
-run-by-value-spec = tie.close (tie.spec run-requires number-requires same-length same-length-2 returns)
+run-by-value-spec =
+    tie.close (tie.spec run-requires number-requires cast-t16 same-length same-length-2 returns)
