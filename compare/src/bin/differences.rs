@@ -3,6 +3,7 @@ use compare::guarded::Guarded;
 use compare::panel::{self, Lent};
 use compare::random::Random;
 use compare::reference::{self, Buffers, State, MNEMONICS};
+use compare::tuned;
 
 const CALLS: u64 = 1_200_000;
 
@@ -109,20 +110,31 @@ fn machine(r: &mut Random) -> u64 {
             ),
             3 => {
                 let limit = if r.chance(3) { r.below(3) as u32 } else { r.below(200) as u32 };
+                tuned_run(s, &b, limit);
                 (
                     reference::run(&mut s, &mut b, limit),
                     panel::run(&mut lent, &b.deck, memory.inner(), &b.protect, journal.inner(), limit),
                 )
             }
-            _ => (
+            _ => {
+                tuned_run(s, &b, 1);
+                (
                 (0, reference::step(&mut s, &mut b)),
                 (0, panel::step(&mut lent, &b.deck, memory.inner(), &b.protect, journal.inner())),
-            ),
+                )
+            }
         };
         let same = ours == theirs && State::from(lent) == s && memory.is(&b.memory) && journal.is(&b.journal);
         assert!(same, "call {k}: {ours:?} here, {theirs:?} in the panel library\n{s:?}\n{:?}\n{b:?}", State::from(lent));
     }
     calls
+}
+
+/// The tuned run is held to the reference too.
+fn tuned_run(s: State, b: &Buffers, limit: u32) {
+    let (mut one, mut other) = ((s, b.clone()), (s, b.clone()));
+    let answers = (reference::run(&mut one.0, &mut one.1, limit), tuned::run(&mut other.0, &mut other.1, limit));
+    assert!(answers.0 == answers.1 && one == other, "{answers:?}: the tuned run differs\n{s:?}\n{b:?}");
 }
 
 fn text(r: &mut Random) -> Vec<u8> {
@@ -174,8 +186,11 @@ fn reading(r: &mut Random) -> u64 {
     }
     let (mut c, mut m, mut p) = (Guarded::new(&cells, 0xA5A5), Guarded::new(&memory, 0xA5A5), Guarded::new(&protect, 0xA5));
     let theirs = panel::read(&t, c.inner(), m.inner(), p.inner());
+    let mut tuned = (cells.clone(), memory.clone(), protect.clone());
+    let quick = tuned::read(&t, &mut tuned.0, &mut tuned.1, &mut tuned.2);
     let ours = reference::read(&t, &mut cells, &mut memory, &mut protect);
     let same = ours == theirs && c.is(&cells) && m.is(&memory) && p.is(&protect);
+    assert!(ours == quick && tuned == (cells, memory, protect), "the tuned reader differs:\n{}", String::from_utf8_lossy(&t));
     assert!(same, "{ours:?} here, {theirs:?} in the panel library:\n{}", String::from_utf8_lossy(&t));
     1
 }

@@ -1,8 +1,9 @@
-//! Nanoseconds per step (or per byte of text), the proved library beside the independent implementation: both release
-//! builds, the same inputs, one run, the two sides alternating. The median of the rounds counts.
+//! Nanoseconds per step (or per byte of text), the proved library beside the two plain implementations: all release
+//! builds, the same inputs, one run, the three sides alternating. The median of the rounds counts.
 use compare::panel::{self, Lent};
 use compare::random::Random;
 use compare::reference::{self, Buffers, State, MNEMONICS};
+use compare::tuned;
 use std::hint::black_box;
 use std::time::Instant;
 
@@ -12,33 +13,37 @@ const STEPS: u32 = 4_000;
 struct Row {
     name: &'static str,
     unit: &'static str,
-    proved: f64,
-    plain: f64,
+    /// the proved library, the reference, the tuned implementation
+    times: [f64; 3],
+    /// the reference's fastest and slowest tenth: how far the machine's own speed moves
+    spread: [f64; 2],
 }
 
-fn median(mut times: Vec<f64>) -> f64 {
+impl Row {
+    /// The proved library over the reference, and over the tuned implementation.
+    fn ratios(&self) -> [f64; 2] {
+        [self.times[0] / self.times[1], self.times[0] / self.times[2]]
+    }
+}
+
+fn at(times: &mut [f64], tenths: usize) -> f64 {
     times.sort_by(f64::total_cmp);
-    times[times.len() / 2]
+    times[times.len() * tenths / 10]
 }
 
-/// The two sides in turn, each round; what a unit of work takes on each.
-fn measure(name: &'static str, unit: &'static str, units: f64, mut proved: impl FnMut(), mut plain: impl FnMut()) -> Row {
-    let (mut a, mut b) = (Vec::new(), Vec::new());
+/// The three sides in turn, the first one changing with each round; what a unit of work takes on each.
+fn measure(name: &'static str, unit: &'static str, units: f64, sides: [&mut dyn FnMut(); 3]) -> Row {
+    let mut times = [Vec::new(), Vec::new(), Vec::new()];
     for round in 0..ROUNDS {
-        let time = |f: &mut dyn FnMut(), into: &mut Vec<f64>| {
+        for k in 0..3 {
+            let side = (round + k) % 3;
             let start = Instant::now();
-            f();
-            into.push(start.elapsed().as_nanos() as f64 / units);
-        };
-        if round % 2 == 0 {
-            time(&mut proved, &mut a);
-            time(&mut plain, &mut b);
-        } else {
-            time(&mut plain, &mut b);
-            time(&mut proved, &mut a);
+            sides[side]();
+            times[side].push(start.elapsed().as_nanos() as f64 / units);
         }
     }
-    Row { name, unit, proved: median(a), plain: median(b) }
+    let spread = [at(&mut times[1], 1), at(&mut times[1], 9)];
+    Row { name, unit, times: times.map(|mut t| at(&mut t, 5)), spread }
 }
 
 /// A deck whose last order jumps to the first: JN counts down from a large number.
@@ -51,25 +56,73 @@ fn run(name: &'static str, orders: &[[u16; 4]], s: State, memory: Vec<u16>) -> R
     s.general[7] = u32::MAX;
     let n = memory.len();
     let b = Buffers { deck: looped(orders), memory, protect: vec![0; n], journal: vec![0; 16_384] };
-    let mut c = b.clone();
+    let (mut c, mut d) = (b.clone(), b.clone());
     let (mut memory, mut journal) = (b.memory.clone(), b.journal.clone());
-    let check = (reference::run(&mut s.clone(), &mut c.clone(), STEPS), panel::run(&mut Lent::from(s), &b.deck, &mut memory.clone(), &b.protect, &mut journal.clone(), STEPS));
-    assert_eq!(check.0, (STEPS, 0));
-    assert_eq!(check.1, (STEPS, 0));
+    let answers = [
+        reference::run(&mut s.clone(), &mut c.clone(), STEPS),
+        tuned::run(&mut s.clone(), &mut d.clone(), STEPS),
+        panel::run(&mut Lent::from(s), &b.deck, &mut memory.clone(), &b.protect, &mut journal.clone(), STEPS),
+    ];
+    assert_eq!(answers, [(STEPS, 0); 3]);
     measure(
         name,
         "ns/step",
         STEPS as f64,
-        || {
-            let mut lent = Lent::from(black_box(s));
-            black_box(panel::run(&mut lent, &b.deck, &mut memory, &b.protect, &mut journal, STEPS));
-            black_box(&lent);
-        },
-        || {
-            let mut s = black_box(s);
-            black_box(reference::run(&mut s, &mut c, STEPS));
-            black_box(&s);
-        },
+        [
+            &mut || {
+                let mut lent = Lent::from(black_box(s));
+                black_box(panel::run(&mut lent, &b.deck, &mut memory, &b.protect, &mut journal, STEPS));
+                black_box(&lent);
+            },
+            &mut || {
+                let mut s = black_box(s);
+                black_box(reference::run(&mut s, &mut c, STEPS));
+                black_box(&s);
+            },
+            &mut || {
+                let mut s = black_box(s);
+                black_box(tuned::run(&mut s, &mut d, STEPS));
+                black_box(&s);
+            },
+        ],
+    )
+}
+
+/// Single calls, as a step key makes them.
+fn stepping(name: &'static str, orders: &[[u16; 4]], s: State, memory: Vec<u16>) -> Row {
+    let mut s = s;
+    s.general[7] = u32::MAX;
+    let n = memory.len();
+    let b = Buffers { deck: looped(orders), memory, protect: vec![0; n], journal: vec![0; 16_384] };
+    let (mut c, mut d) = (b.clone(), b.clone());
+    let (mut memory, mut journal) = (b.memory.clone(), b.journal.clone());
+    measure(
+        name,
+        "ns/call",
+        STEPS as f64,
+        [
+            &mut || {
+                let mut lent = Lent::from(black_box(s));
+                for _ in 0..STEPS {
+                    assert_eq!(panel::step(&mut lent, &b.deck, &mut memory, &b.protect, &mut journal), 0);
+                }
+                black_box(&lent);
+            },
+            &mut || {
+                let mut s = black_box(s);
+                for _ in 0..STEPS {
+                    assert_eq!(reference::step(&mut s, &mut c), 0);
+                }
+                black_box(&s);
+            },
+            &mut || {
+                let mut s = black_box(s);
+                for _ in 0..STEPS {
+                    assert_eq!(tuned::run(&mut s, &mut d, 1), (1, 0));
+                }
+                black_box(&s);
+            },
+        ],
     )
 }
 
@@ -117,37 +170,49 @@ fn text(r: &mut Random) -> Vec<u8> {
 }
 
 fn reading(r: &mut Random) -> Row {
+    type Lent = (Vec<u16>, Vec<u16>, Vec<u8>);
     let t = text(r);
-    let (mut cells, mut memory, mut protect) = (vec![0u16; 16_384], vec![0u16; 4_096], vec![0u8; 4_096]);
-    let (mut c, mut m, mut p) = (cells.clone(), memory.clone(), protect.clone());
-    let ours = panel::read(&t, &mut c, &mut m, &mut p);
-    assert!(ours.is_ok());
-    assert_eq!(ours, reference::read(&t, &mut cells, &mut memory, &mut protect));
+    let blank: Lent = (vec![0; 16_384], vec![0; 4_096], vec![0; 4_096]);
+    let (mut a, mut b, mut c) = (blank.clone(), blank.clone(), blank);
+    let answers = [
+        panel::read(&t, &mut a.0, &mut a.1, &mut a.2),
+        reference::read(&t, &mut b.0, &mut b.1, &mut b.2),
+        tuned::read(&t, &mut c.0, &mut c.1, &mut c.2),
+    ];
+    assert!(answers[0].is_ok() && answers[0] == answers[1] && answers[0] == answers[2] && a == b && a == c);
     measure(
-        "(f) a deck text of 32 KiB",
+        "(g) a deck text of 32 KiB",
         "ns/byte",
         t.len() as f64,
-        || assert!(panel::read(black_box(&t), &mut c, &mut m, &mut p).is_ok()),
-        || assert!(reference::read(black_box(&t), &mut cells, &mut memory, &mut protect).is_ok()),
+        [
+            &mut || assert!(panel::read(black_box(&t), &mut a.0, &mut a.1, &mut a.2).is_ok()),
+            &mut || assert!(reference::read(black_box(&t), &mut b.0, &mut b.1, &mut b.2).is_ok()),
+            &mut || assert!(tuned::read(black_box(&t), &mut c.0, &mut c.1, &mut c.2).is_ok()),
+        ],
     )
 }
 
 fn chart(rows: &[Row]) -> String {
-    let mut out = String::from(
-        "<svg xmlns=\"http://www.w3.org/2000/svg\" width=\"720\" height=\"330\" font-family=\"sans-serif\" font-size=\"13\">\n\
-         <rect width=\"720\" height=\"330\" fill=\"white\"/>\n\
-         <text x=\"16\" y=\"24\" font-size=\"15\">Time against the independent implementation (1.0 = the same; shorter is faster)</text>\n",
+    let height = 82 + 50 * rows.len();
+    let mut out = format!(
+        "<svg xmlns=\"http://www.w3.org/2000/svg\" width=\"720\" height=\"{height}\" font-family=\"sans-serif\" font-size=\"13\">\n\
+         <rect width=\"720\" height=\"{height}\" fill=\"white\"/>\n\
+         <text x=\"16\" y=\"24\" font-size=\"15\">Time of the proved library (1.0 = the same; shorter is faster)</text>\n\
+         <rect x=\"16\" y=\"36\" width=\"12\" height=\"12\" fill=\"#4477aa\"/><text x=\"34\" y=\"47\">against plain Rust</text>\n\
+         <rect x=\"176\" y=\"36\" width=\"12\" height=\"12\" fill=\"#ccbb44\"/><text x=\"194\" y=\"47\">against Rust tuned by hand</text>\n",
     );
     let scale = 220.0;
     for (k, r) in rows.iter().enumerate() {
-        let (y, ratio) = (48 + 44 * k, r.proved / r.plain);
-        let width = (ratio * scale).min(430.0);
-        out += &format!("<text x=\"16\" y=\"{}\">{}</text>\n", y + 18, r.name);
-        out += &format!("<rect x=\"270\" y=\"{y}\" width=\"{width:.1}\" height=\"26\" fill=\"#4477aa\"/>\n");
-        out += &format!("<text x=\"{:.1}\" y=\"{}\">{ratio:.2}</text>\n", 276.0 + width, y + 18);
+        let y = 62 + 50 * k;
+        out += &format!("<text x=\"16\" y=\"{}\">{}</text>\n", y + 24, r.name);
+        for (i, (ratio, colour)) in r.ratios().into_iter().zip(["#4477aa", "#ccbb44"]).enumerate() {
+            let (top, width) = (y + 20 * i, (ratio * scale).min(430.0));
+            out += &format!("<rect x=\"270\" y=\"{top}\" width=\"{width:.1}\" height=\"17\" fill=\"{colour}\"/>\n");
+            out += &format!("<text x=\"{:.1}\" y=\"{}\">{ratio:.2}</text>\n", 276.0 + width, top + 13);
+        }
     }
     let x = 270.0 + scale;
-    out += &format!("<line x1=\"{x}\" y1=\"40\" x2=\"{x}\" y2=\"312\" stroke=\"#cc3311\" stroke-dasharray=\"4 3\"/>\n</svg>\n");
+    out += &format!("<line x1=\"{x}\" y1=\"56\" x2=\"{x}\" y2=\"{}\" stroke=\"#cc3311\" stroke-dasharray=\"4 3\"/>\n</svg>\n", height - 16);
     out
 }
 
@@ -184,12 +249,16 @@ fn main() {
         run("(c) long divides, unnormalised", &longs, floats(r, 0x800f_ffff), unnormalised),
         run("(d) compares", &compares, floats(r, 0x80ff_ffff), vec![0; 64]),
         run("(e) loads and stores", &moves, floats(r, 0x80ff_ffff), words(r, 0xff_ffff)),
+        stepping("(f) single steps of the mixed deck", &mixed, floats(r, 0x80ff_ffff), words(r, 0xff_ffff)),
         reading(r),
     ];
-    println!("{:<34} {:>10} {:>10} {:>7}", "", "proved", "plain", "ratio");
+    println!("{:<36} {:>8} {:>8} {:>8} {:>9} {:>9}", "", "proved", "plain", "tuned", "to plain", "to tuned");
     for r in &rows {
-        println!("{:<34} {:>10.2} {:>10.2} {:>7.2}  {}", r.name, r.proved, r.plain, r.proved / r.plain, r.unit);
+        let ([proved, plain, tuned], [to_plain, to_tuned]) = (r.times, r.ratios());
+        println!("{:<36} {proved:>8.2} {plain:>8.2} {tuned:>8.2} {to_plain:>9.2} {to_tuned:>9.2}  {}", r.name, r.unit);
     }
+    let [fast, slow] = rows[0].spread;
+    println!("medians of {ROUNDS} rounds; in row (a) a tenth of the plain rounds was below {fast:.1}, a tenth above {slow:.1} ns/step");
     if let Some(path) = std::env::args().nth(1) {
         std::fs::write(path, chart(&rows)).expect("the chart is written");
     }

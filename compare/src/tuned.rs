@@ -1,0 +1,538 @@
+//! Document 01's run and reader once more, tuned as a good Rust programmer would: one match, the state changed in place, a
+//! text read in one pass. Held to the reference by the comparison; a harder opponent for the benchmark.
+use crate::reference::{Buffers, State};
+use std::cmp::Ordering;
+
+#[inline(always)]
+fn norm(f: u64, d: u32) -> (u32, u64) {
+    let z = f.leading_zeros() / 4 - (16 - d);
+    (z, f << (4 * z))
+}
+#[inline(always)]
+fn sign_code(neg: bool, f: u64) -> u8 {
+    if f == 0 {
+        0
+    } else if neg {
+        3
+    } else {
+        1
+    }
+}
+#[inline(always)]
+fn key(c: u32, f: u64, d: u32) -> u64 {
+    if f == 0 {
+        return 0;
+    }
+    let (z, f) = norm(f, d);
+    ((c + 14 - z) as u64) << 56 | f
+}
+#[inline(always)]
+fn compare(na: bool, ca: u32, fa: u64, nb: bool, cb: u32, fb: u64, d: u32) -> u8 {
+    let (x, y) = (key(ca, fa, d), key(cb, fb, d));
+    let order = match (na && x > 0, nb && y > 0) {
+        (false, false) => x.cmp(&y),
+        (true, true) => y.cmp(&x),
+        (true, false) => Ordering::Less,
+        (false, true) => Ordering::Greater,
+    };
+    match order {
+        Ordering::Less => 3,
+        Ordering::Greater => 1,
+        Ordering::Equal => 0,
+    }
+}
+enum Q {
+    Of(u32, u64),
+    Zero,
+    Stop(u8),
+}
+#[inline(always)]
+fn divide(ca: u32, fa: u64, cb: u32, fb: u64, d: u32, mask: bool) -> Q {
+    if fb == 0 {
+        return Q::Stop(8);
+    }
+    if fa == 0 {
+        return Q::Zero;
+    }
+    let ((za, x), (zb, y)) = (norm(fa, d), norm(fb, d));
+    let lead = (x >= y) as u32;
+    let c = (ca as i32 - za as i32) - (cb as i32 - zb as i32) + 64 + lead as i32;
+    if c > 127 {
+        return Q::Stop(9);
+    }
+    if c < 0 {
+        return if mask { Q::Stop(10) } else { Q::Zero };
+    }
+    let n = 4 * (d - lead);
+    let q = if d == 6 { (x << n) / y } else { (((x as u128) << n) / y as u128) as u64 };
+    Q::Of(c as u32, q)
+}
+#[inline(always)]
+fn ch(w: u32) -> u32 {
+    w >> 24 & 127
+}
+#[inline(always)]
+fn fr(w: u32) -> u64 {
+    (w & 0xff_ffff) as u64
+}
+#[inline(always)]
+fn word(m: &[u16], a: usize) -> u32 {
+    (m[a] as u32) << 16 | m[a + 1] as u32
+}
+
+struct Run<'a> {
+    s: State,
+    journal: &'a mut [u32],
+}
+impl Run<'_> {
+    #[inline(always)]
+    fn record(&mut self, kind: u32, place: u32, l: u32, r: u32) {
+        let h = self.s.pointer as u32 | (self.s.code as u32) << 16 | (self.s.mask as u32) << 18 | kind << 19;
+        let k = 4 * self.s.used as usize;
+        self.journal[k..k + 4].copy_from_slice(&[h, place, l, r]);
+        self.s.used += 1;
+    }
+    #[inline(always)]
+    fn float(&mut self, r: usize, w: u32, code: u8) {
+        self.record(1, r as u32, self.s.float[r], 0);
+        self.s.float[r] = w;
+        self.s.code = code;
+        self.s.pointer += 1;
+    }
+    #[inline(always)]
+    fn pair(&mut self, r: usize, h: u32, l: u32, code: u8) {
+        let r2 = (r + 1) % 8;
+        self.record(2, r as u32, self.s.float[r], self.s.float[r2]);
+        self.s.float[r] = h;
+        self.s.float[r2] = l;
+        self.s.code = code;
+        self.s.pointer += 1;
+    }
+    #[inline(always)]
+    fn general(&mut self, r: usize, w: u32, code: u8, p: u16) {
+        self.record(3, r as u32, self.s.general[r], 0);
+        self.s.general[r] = w;
+        self.s.code = code;
+        self.s.pointer = p;
+    }
+    #[inline(always)]
+    fn nothing(&mut self, code: u8, mask: u8, p: u16) {
+        self.record(0, 0, 0, 0);
+        self.s.code = code;
+        self.s.mask = mask;
+        self.s.pointer = p;
+    }
+}
+
+const LIMITS: [(u16, u16, u16, u8, u8); 23] = {
+    let mut t = [(0u16, 0u16, 0u16, 0u8, 0u8); 23];
+    let mut k = 1;
+    while k < 22 {
+        t[k] = match k {
+            1 | 4 | 5 | 7 | 9 | 10 | 11 | 13 => (7, 7, 0, 0, 0),
+            15 | 18 => (7, 0, 65535, 2, 2),
+            16 => (7, 0, 65535, 4, 4),
+            2 | 6 | 12 | 17 => (7, 0, 65535, 2, 0),
+            3 | 8 | 14 => (7, 0, 65535, 4, 0),
+            19 => (0, 1, 0, 0, 0),
+            _ => (7, 0, 65535, 0, 0),
+        };
+        k += 1;
+    }
+    t
+};
+
+pub fn run(st: &mut State, b: &mut Buffers, limit: u32) -> (u32, u8) {
+    if b.deck.len() % 4 != 0 || b.deck.len() > 16_384 {
+        return (0, 1);
+    }
+    if b.memory.len() > 32_768 || b.journal.len() > 16_384 || b.protect.len() != b.memory.len() {
+        return (0, 2);
+    }
+    if st.code == 2 || st.code > 3 || st.mask > 1 || st.used as usize > b.journal.len() / 4 {
+        return (0, 3);
+    }
+    let room = (b.journal.len() / 4) as u32;
+    let (deck, memory, protect) = (&b.deck[..], &mut b.memory[..], &b.protect[..]);
+    let mut m = Run { s: *st, journal: &mut b.journal[..] };
+    let mut count = 0;
+    let mut stop = 0;
+    while count < limit {
+        let s = &m.s;
+        let p = s.pointer as usize;
+        if p >= deck.len() / 4 {
+            stop = 4;
+            break;
+        }
+        let o = &deck[4 * p..4 * p + 4];
+        let (code, r1, r2, at) = (o[0], o[1], o[2], o[3]);
+        if code == 0 || code > 22 {
+            stop = 5;
+            break;
+        }
+        let l = LIMITS[code as usize];
+        if r1 > l.0 || r2 > l.1 || at > l.2 {
+            stop = 5;
+            break;
+        }
+        if code == 22 {
+            stop = 12;
+            break;
+        }
+        if s.used == room {
+            stop = 13;
+            break;
+        }
+        let a = at as usize;
+        let span = l.3 as usize;
+        if span > 0 && a + span > memory.len() {
+            stop = 6;
+            break;
+        }
+        if l.4 > 0 && protect[a..a + span].iter().any(|x| *x != 0) {
+            stop = 7;
+            break;
+        }
+        let (i, j) = ((r1 & 7) as usize, (r2 & 7) as usize);
+        let (cc, mask, next) = (s.code, s.mask, s.pointer + 1);
+        let fa = s.float[i];
+        let fb = s.float[(i + 1) & 7];
+        match code {
+            1 => {
+                let w = s.float[j];
+                m.float(i, w, sign_code(w >> 31 == 1, fr(w)));
+            }
+            2 => {
+                let w = word(memory, a);
+                m.float(i, w, sign_code(w >> 31 == 1, fr(w)));
+            }
+            3 => {
+                let (h, l) = (word(memory, a), word(memory, a + 2));
+                m.pair(i, h, l, sign_code(h >> 31 == 1, fr(h) << 32 | l as u64));
+            }
+            4 => {
+                let w = s.float[j];
+                let w = if fr(w) == 0 { 0 } else { w ^ 0x8000_0000 };
+                m.float(i, w, sign_code(w >> 31 == 1, fr(w)));
+            }
+            5 | 6 => {
+                let y = if code == 5 { s.float[j] } else { word(memory, a) };
+                let c = compare(fa >> 31 == 1, ch(fa), fr(fa), y >> 31 == 1, ch(y), fr(y), 6);
+                m.nothing(c, mask, next);
+            }
+            7 | 8 => {
+                let (h, l) =
+                    if code == 7 { (s.float[j], s.float[(j + 1) & 7]) } else { (word(memory, a), word(memory, a + 2)) };
+                let c = compare(
+                    fa >> 31 == 1,
+                    ch(fa),
+                    fr(fa) << 32 | fb as u64,
+                    h >> 31 == 1,
+                    ch(h),
+                    fr(h) << 32 | l as u64,
+                    14,
+                );
+                m.nothing(c, mask, next);
+            }
+            9 => {
+                let w = s.float[j];
+                let (f, places) = (fr(w), ch(w) as i32 - 66);
+                let v: i64 = if f == 0 {
+                    0
+                } else if places > 8 {
+                    stop = 11;
+                    break;
+                } else {
+                    let g = if places >= 0 {
+                        f << (4 * places)
+                    } else if places > -16 {
+                        f >> (-4 * places)
+                    } else {
+                        0
+                    } as i64;
+                    if w >> 31 == 1 {
+                        -g
+                    } else {
+                        g
+                    }
+                };
+                let Ok(x) = i32::try_from(v) else {
+                    stop = 11;
+                    break;
+                };
+                let h = x >> 16;
+                let c = if h == 0 {
+                    0
+                } else if h < 0 {
+                    3
+                } else {
+                    1
+                };
+                m.general(i, x as u32, c, next);
+            }
+            10 => {
+                let v = s.general[j] as i32;
+                if v == 0 {
+                    m.float(i, 0, 0);
+                } else {
+                    let g = v.unsigned_abs();
+                    let z = g.leading_zeros() / 4;
+                    let w = (v as u32 & 0x8000_0000) | (68 - z) << 24 | (g << (4 * z)) >> 8;
+                    m.float(i, w, sign_code(v < 0, fr(w)));
+                }
+            }
+            11 | 12 => {
+                let y = if code == 11 { s.float[j] } else { word(memory, a) };
+                match divide(ch(fa), fr(fa), ch(y), fr(y), 6, mask == 1) {
+                    Q::Stop(n) => {
+                        stop = n;
+                        break;
+                    }
+                    Q::Zero => m.float(i, 0, cc),
+                    Q::Of(c, f) => m.float(i, (fa ^ y) & 0x8000_0000 | c << 24 | f as u32, cc),
+                }
+            }
+            13 | 14 => {
+                let (h, l) = if code == 13 {
+                    (s.float[j], s.float[(j + 1) & 7])
+                } else {
+                    (word(memory, a), word(memory, a + 2))
+                };
+                match divide(ch(fa), fr(fa) << 32 | fb as u64, ch(h), fr(h) << 32 | l as u64, 14, mask == 1) {
+                    Q::Stop(n) => {
+                        stop = n;
+                        break;
+                    }
+                    Q::Zero => m.pair(i, 0, 0, cc),
+                    Q::Of(c, f) => m.pair(i, (fa ^ h) & 0x8000_0000 | c << 24 | (f >> 32) as u32, f as u32, cc),
+                }
+            }
+            15 | 18 => {
+                let w = if code == 15 { fa } else { s.general[i] };
+                m.record(4, at as u32, word(memory, a), 0);
+                memory[a] = (w >> 16) as u16;
+                memory[a + 1] = w as u16;
+                m.s.pointer = next;
+            }
+            16 => {
+                m.record(5, at as u32, word(memory, a), word(memory, a + 2));
+                for (k, x) in [(fa >> 16) as u16, fa as u16, (fb >> 16) as u16, fb as u16].into_iter().enumerate() {
+                    memory[a + k] = x;
+                }
+                m.s.pointer = next;
+            }
+            17 => {
+                let w = word(memory, a);
+                let c = if w == 0 {
+                    0
+                } else if (w as i32) < 0 {
+                    3
+                } else {
+                    1
+                };
+                m.general(i, w, c, next);
+            }
+            19 => m.nothing(cc, r2 as u8, next),
+            20 => {
+                let bit = match cc {
+                    0 => 4,
+                    1 => 2,
+                    _ => 1,
+                };
+                m.nothing(cc, mask, if r1 & bit != 0 { at } else { next });
+            }
+            _ => {
+                let w = s.general[i].wrapping_sub(1);
+                m.general(i, w, cc, if w != 0 { at } else { next });
+            }
+        }
+        count += 1;
+    }
+    *st = m.s;
+    (count, stop)
+}
+
+// ---- deck text: one pass, values taken off a cursor; what the lines give is staged until the text is known to be good
+
+const LONGEST: usize = 32_768;
+
+struct Cursor<'a> {
+    text: &'a [u8],
+    at: usize,
+}
+
+impl Cursor<'_> {
+    #[inline(always)]
+    fn byte(&mut self) -> Option<u8> {
+        let b = *self.text.get(self.at)?;
+        self.at += 1;
+        Some(b)
+    }
+
+    /// At most 65,535, without leading zeros, and the byte after it.
+    #[inline(always)]
+    fn decimal(&mut self, after: u8) -> Option<u16> {
+        let from = self.at;
+        let mut n = 0u32;
+        loop {
+            let b = self.byte()?;
+            if b == after {
+                break;
+            }
+            let d = b.wrapping_sub(b'0');
+            if d > 9 || self.at - from > 5 {
+                return None;
+            }
+            n = n * 10 + d as u32;
+        }
+        let digits = self.at - 1 - from;
+        if digits == 0 || digits > 1 && self.text[from] == b'0' {
+            return None;
+        }
+        u16::try_from(n).ok()
+    }
+
+    #[inline(always)]
+    fn word(&mut self) -> Option<u16> {
+        let mut n = 0u16;
+        for _ in 0..4 {
+            let b = self.byte()?;
+            let d = match b {
+                b'0'..=b'9' => b - b'0',
+                b'A'..=b'F' => b - b'A' + 10,
+                _ => return None,
+            };
+            n = n << 4 | d as u16;
+        }
+        (self.byte()? == b'\n').then_some(n)
+    }
+
+    #[inline(always)]
+    fn mnemonic(&mut self) -> Option<u16> {
+        let mut key = 0u32;
+        for _ in 0..5 {
+            let b = self.byte()?;
+            if b == b' ' {
+                return code(key);
+            }
+            if b == 0 || key >> 24 != 0 {
+                return None;
+            }
+            key = key << 8 | b as u32;
+        }
+        None
+    }
+
+    #[inline(always)]
+    fn order(&mut self) -> Option<[u16; 4]> {
+        let o = [self.mnemonic()?, self.decimal(b' ')?, self.decimal(b' ')?, self.decimal(b'\n')?];
+        let l = LIMITS[o[0] as usize];
+        (o[1] <= l.0 && o[2] <= l.1 && o[3] <= l.2).then_some(o)
+    }
+
+    #[inline(always)]
+    fn halfword(&mut self) -> Option<[u16; 3]> {
+        let at = self.decimal(b' ')?;
+        let protect = self.byte()?.wrapping_sub(b'0');
+        if protect > 1 || self.byte()? != b' ' {
+            return None;
+        }
+        Some([at, protect as u16, self.word()?])
+    }
+
+    fn heading(&mut self, wanted: &[u8]) -> Option<()> {
+        let line = self.text.get(self.at..self.at + wanted.len())?;
+        self.at += wanted.len();
+        (line == wanted).then_some(())
+    }
+}
+
+fn code(key: u32) -> Option<u16> {
+    const fn k(name: &[u8]) -> u32 {
+        let mut n = 0;
+        let mut i = 0;
+        while i < name.len() {
+            n = n << 8 | name[i] as u32;
+            i += 1;
+        }
+        n
+    }
+    macro_rules! codes {
+        ($($name:ident = $n:literal),*) => {{
+            $(const $name: u32 = k(stringify!($name).as_bytes());)*
+            match key {
+                $($name => Some($n),)*
+                _ => None,
+            }
+        }};
+    }
+    codes!(
+        LER = 1,
+        LE = 2,
+        LED = 3,
+        LECR = 4,
+        CER = 5,
+        CE = 6,
+        CEDR = 7,
+        CED = 8,
+        CVFX = 9,
+        CVFL = 10,
+        DER = 11,
+        DE = 12,
+        DEDR = 13,
+        DED = 14,
+        STE = 15,
+        STED = 16,
+        L = 17,
+        ST = 18,
+        UM = 19,
+        JC = 20,
+        JN = 21,
+        HALT = 22
+    )
+}
+
+/// The order count, or the number and the line of a refusal.
+pub fn read(text: &[u8], cells: &mut [u16], memory: &mut [u16], protect: &mut [u8]) -> Result<u32, (u8, u32)> {
+    if text.len() > LONGEST {
+        return Err((17, 0));
+    }
+    let mut staged = [0u16; LONGEST / 2];
+    let mut c = Cursor { text, at: 0 };
+    let mut line = 1;
+    c.heading(b"op r1 r2 at\n").ok_or((16, line))?;
+    let mut n = 0;
+    while c.at < text.len() && text[c.at] != b'\n' {
+        line += 1;
+        let o = c.order().ok_or((16, line))?;
+        if n + 4 > cells.len() {
+            return Err((17, line));
+        }
+        staged[n..n + 4].copy_from_slice(&o);
+        n += 4;
+    }
+    let mut end = n;
+    if c.at < text.len() {
+        c.at += 1;
+        line += 2;
+        c.heading(b"at protect word\n").ok_or((16, line))?;
+        let room = memory.len().min(protect.len());
+        let mut least = 0;
+        while c.at < text.len() {
+            line += 1;
+            let h = c.halfword().filter(|h| h[0] as usize >= least).ok_or((16, line))?;
+            if h[0] as usize >= room {
+                return Err((17, line));
+            }
+            least = h[0] as usize + 1;
+            staged[end..end + 3].copy_from_slice(&h);
+            end += 3;
+        }
+    }
+    cells[..n].copy_from_slice(&staged[..n]);
+    for h in staged[n..end].chunks_exact(3) {
+        memory[h[0] as usize] = h[2];
+        protect[h[0] as usize] = h[1] as u8;
+    }
+    Ok((n / 4) as u32)
+}
