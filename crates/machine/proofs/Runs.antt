@@ -1,5 +1,5 @@
 -- A run, a step at a time; and a step as a run of one.
-use Prim.Native.Nat.{ℕ, suc, _+_, _-_, _<_, _≤_}
+use Prim.Native.Nat.{ℕ, zero, suc, _+_, _-_, _<_, _≤_}
 use lib.Dec.{eqb}
 use lib.ListN.{length}
 use native.Mathlib.Nat.{add-zero, zero-add}
@@ -7,7 +7,7 @@ use mathlib.Core.Path.{_≡_, refl, sym, ap, subst, _∙_}
 use mathlib.Core.List.{List}
 use mathlib.Core.Bool.{Bool, true, false, cond}
 use native.Mathlib.Omega.{arith}
-use borrow.Author.Tests.{eqb-false, ne-eqb}
+use borrow.Author.Tests.{eqb-true, eqb-false, ne-eqb}
 use Rattle.hexfloat.specs.Answer.{Answer, gives, stops}
 use Rattle.machine.specs.declared.verdict.Effect.{Effect}
 use Rattle.machine.specs.Decide.{decided}
@@ -46,16 +46,29 @@ module _ (d p : List ℕ) where
   unfolding decided
   entry-stops x h = rw (ne-eqb (entryOf d p x) 0 h)
 
-  -- a run of one is a step
-  pub run-one : (x : Machine) → ran d p 1 x ≡ stepped d p x
-  unfolding ran repeated stepped
-  run-one x = cases (eqb (entryOf d p x) 0) refl
+  -- so where there is a step, its checks are those of the run
+  pub run-steps : (n : ℕ) (x : Machine) → (n ≡ 0 → ⊥) → ran d p n x ≡ steps n x
+  unfolding ran repeated
+  run-steps zero x some = absurd (some refl)
+  run-steps (suc n) x some = cases (eqb (entryOf d p x) 0) refl
     where
-      cases :
-          (b : Bool) → eqb (entryOf d p x) 0 ≡ b →
-          cond b (steps 1 x) (outcome x 0 (entryOf d p x)) ≡ onward (verdictOf d p x) x (λ e. committed e x) (λ y. outcome y 0 0)
+      cases : (b : Bool) → eqb (entryOf d p x) 0 ≡ b → cond b (steps (suc n) x) (outcome x 0 (entryOf d p x)) ≡ steps (suc n) x
       cases true e = refl
       cases false e = rw (entry-stops x (eqb-false (entryOf d p x) 0 e))
+
+  -- and at a limit of 0 they are all that is made
+  pub run-none : (n : ℕ) (x : Machine) → n ≡ 0 → ran d p n x ≡ outcome x 0 (entryOf d p x)
+  unfolding ran repeated
+  run-none n x none = rw none (cases (eqb (entryOf d p x) 0) refl)
+    where
+      cases : (b : Bool) → eqb (entryOf d p x) 0 ≡ b → cond b (outcome x 0 0) (outcome x 0 (entryOf d p x)) ≡ outcome x 0 (entryOf d p x)
+      cases true e = rw (eqb-true (entryOf d p x) 0 e)
+      cases false e = refl
+
+  -- a run of one is a step
+  pub run-one : (x : Machine) → ran d p 1 x ≡ stepped d p x
+  unfolding repeated stepped
+  run-one x = run-steps 1 x (λ z. omega arith)
 
   -- a step counts as one exactly where its answer is 0
   stepped-single : (x : Machine) → stepped d p x ≡ single (stepped d p x .after) (stepped d p x .stop)

@@ -7,7 +7,6 @@ use crate::decide::entry;
 use crate::journal::keep;
 use crate::state::State;
 use crate::stop::Stop;
-use crate::stop::number;
 use crate::verdict::Verdict;
 ghost use mathlib.Core.Path.{_≡_};
 ghost use Rattle.machine.specs.Stops.{numberOf};
@@ -21,7 +20,8 @@ pub struct Ran {
     pub stop: Stop,
 }
 
-// Steps to the limit, which is looked at first, or to a stop.
+// Steps to the limit, which is looked at first, or to a stop. Each step makes checks 1 to 3; at a limit
+// of 0 they are made here.
 pub fn run(
     s: State,
     deck: &[u16],
@@ -33,19 +33,18 @@ pub fn run(
     ensures { λ r. ⌜ outcome (machine (r .state) (now (memory .exit)) (now (journal .exit))) (r .count) (numberOf (r .stop))
         ≡ ran (now (deck .entry)) (now (protect .entry)) limit (machine s (now (memory .entry)) (now (journal .entry))) ⌝ }
 {
-    let first = entry(
-        s.registers,
-        s.used,
-        deck.len(),
-        protect.len(),
-        memory.len(),
-        journal.len(),
-    );
-    if number(first) != 0 {
+    if limit == 0 {
         return Ran {
             state: s,
             count: 0,
-            stop: first,
+            stop: entry(
+                s.registers,
+                s.used,
+                deck.len(),
+                protect.len(),
+                memory.len(),
+                journal.len(),
+            ),
         };
     }
     let mut registers = s.registers;

@@ -1,16 +1,13 @@
 -- `machine::running::run` meets its contract: the invariant: what the steps so far and those that are left lead to.
 -- Assumes nothing.
-use borrow.Author.Tests.{eq-eqb, ne-eqb}
 use borrow.Author.Needs.{needs}
 use native.Mathlib.Omega.{arith}
 use mathlib.Core.Path.{sym, ap, _∙_}
 use Prim.Native.Nat.{_-_}
 use Rattle.machine.specs.Machine.{machine, state}
-use Rattle.machine.specs.Run.{ran}
 use Rattle.machine.specs.Says.{says}
-use Rattle.machine.specs.Stops.{numberOf}
 use Rattle.machine.proofs.Decided.{committable}
-use Rattle.machine.proofs.Runs.{under-start, under-on, under-stop, under-end, Under}
+use Rattle.machine.proofs.Runs.{Under, run-steps, run-none, under-start, under-on, under-stop, under-end}
 use Rattle.machine.proofs.running.run.Statement.{statement}
 use Rattle.machine.proofs.running.run.Tie as tie
 
@@ -24,12 +21,8 @@ abbrev μ-loop : tie.MeasureT-loop
 entry-requires : tie.Need-entry-requires Inv-loop μ-loop
 entry-requires c κs = tt
 
-number-requires : tie.Need-number-requires Inv-loop μ-loop
-number-requires c κs = tt
-
 returns : tie.Need-returns Inv-loop μ-loop
-unfolding ran
-returns c = let checks = c .before .before .entry in rw (← checks .ensures, ne-eqb (numberOf (checks .result)) 0 (λ z. c .if1 .taken (c .before .number .ensures ∙ z)))
+returns c = rw (c .entry .ensures) (sym (run-none _ _ _ _ (c .before .if1 .taken)))
 
 loop-holds : tie.Need-loop-holds Inv-loop μ-loop
 loop-holds c = under-start _ _ _ _
@@ -47,8 +40,7 @@ same-length-2 : tie.Need-same-length-2 Inv-loop μ-loop
 same-length-2 c = c .before .before .before .before .before .before .loop .inv .journal
 
 returns-2 : tie.Need-returns-2 Inv-loop μ-loop
-unfolding ran
-returns-2 c = let checks = c .before .before .before .before .before .before .before .before .before .before .entry in let zero = sym (c .before .before .before .before .before .before .before .before .before .number .ensures) ∙ c .before .before .before .before .before .before .before .before .if1 .left in let passes = eq-eqb (numberOf (checks .result)) 0 zero in rw (← checks .ensures, passes) (sym (under-stop _ _ _ _ _ _ (c .before .before .before .before .before .before .loop .inv) _ (c .before .before .before .before .before .loop-test .taken) (sym (c .before .before .before .decide .ensures) ∙ ap says (c .before .v .given .1))))
+returns-2 c = sym (run-steps _ _ _ _ (c .before .before .before .before .before .before .before .before .if1 .left) ∙ under-stop _ _ _ _ _ _ (c .before .before .before .before .before .before .loop .inv) _ (c .before .before .before .before .before .loop-test .taken) (sym (c .before .before .before .decide .ensures) ∙ ap says (c .before .v .given .1)))
 
 enum-known-v-2 : tie.Need-enum-known-v-2 Inv-loop μ-loop
 enum-known-v-2 c = search needs
@@ -69,7 +61,7 @@ add-used : tie.Need-add-used Inv-loop μ-loop
 add-used c = omega (arith, committable _ _ _ _ _ _ _ (sym (c .before .before .before .before .before .before .before .before .before .before .before .before .before .before .before .before .before .decide .ensures) ∙ ap says (c .before .before .before .before .before .before .before .before .before .before .before .before .before .before .before .v2 .given .1)) .count)
 
 add-count : tie.Need-add-count Inv-loop μ-loop
-add-count c = omega (arith, c .before .before .before .before .before .before .before .before .before .before .before .before .before .before .before .before .before .before .before .loop-test .taken, c .before .before .before .before .before .before .before .before .before .before .before .before .before .before .before .before .before .before .before .before .before .before .before .before .before .before .before .before .before .fits .limit .fits)
+add-count c = omega (arith, c .before .before .before .before .before .before .before .before .before .before .before .before .before .before .before .before .before .before .before .loop-test .taken, c .before .before .before .before .before .before .before .before .before .before .before .before .before .before .before .before .before .before .before .before .before .before .before .before .before .before .before .fits .limit .fits)
 
 loop-less : tie.Need-loop-less Inv-loop μ-loop
 loop-less c = omega (arith, c .before .before .before .before .before .before .before .before .before .before .before .before .before .before .before .before .before .before .before .loop-test .taken)
@@ -84,8 +76,7 @@ same-length-4 : tie.Need-same-length-4 Inv-loop μ-loop
 same-length-4 c = c .before .loop .inv .journal
 
 returns-3 : tie.Need-returns-3 Inv-loop μ-loop
-unfolding ran
-returns-3 c = let checks = c .before .before .before .before .before .entry in let zero = sym (c .before .before .before .before .number .ensures) ∙ c .before .before .before .if1 .left in let passes = eq-eqb (numberOf (checks .result)) 0 zero in rw (← checks .ensures, passes) (sym (under-end _ _ _ _ _ _ (c .before .loop .inv) (c .loop-test .left)))
+returns-3 c = sym (run-steps _ _ _ _ (c .before .before .before .if1 .left) ∙ under-end _ _ _ _ _ _ (c .before .loop .inv) (c .loop-test .left))
 
 pub run-spec : {M : Type 1} → statement M
 run-spec =
@@ -94,7 +85,6 @@ run-spec =
     Inv-loop
     μ-loop
     entry-requires
-    number-requires
     returns
     loop-holds
     decide-requires
