@@ -117,8 +117,7 @@ read-formed : (q : Record) (e : Effect) → decoded q ≡ gives e → (q ≡ enc
 read-formed q e h =
     let d = decoded-gives q e h in
     let w = q .head in
-    let same = d .1 in
-    (
+    let same = d .1 in (
       rw (← same, ← d .2 .words (packed (unpacked w)), head-back w),
       record {
         condition = subst (λ (s : Status). conditionFormed (s .condition) ≡ true) same (d .0);

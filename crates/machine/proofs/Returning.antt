@@ -95,8 +95,7 @@ unfolding decoded
 decoded-gives q e h =
     let k = provided-gives (conditionFormed (unpacked (q .head) .condition)) 15 _ h in
     let m = mapped-gives (effectFrom (unpacked (q .head))) (changeFrom (q .head / 2 ^ 19) (q .place) (q .left) (q .right)) (k .1) in
-    let f = change-formed (q .head / 2 ^ 19) (q .place) (q .left) (q .right) (m .0) (m .1) in
-    (
+    let f = change-formed (q .head / 2 ^ 19) (q .place) (q .left) (q .right) (m .0) (m .1) in (
       k .0,
       ap (λ (x : Effect). x .status) (m .2),
       subst (λ (x : Effect). Formed (q .head / 2 ^ 19) (q .place) (q .left) (q .right) (x .change)) (m .2) f,

@@ -58,11 +58,7 @@ fn load(width: Width, g: Registers, r: u32, b: Words) -> Verdict
     requires { ⌜ g .status .pointer + 1 < 65536 ⌝ }
     ensures { λ v. ⌜ says v ≡ gives (loaded width g r b) ⌝ }
 {
-    granted(
-        g,
-        float_change(width, r, b),
-        hexfloat::condition(width, b),
-    )
+    granted(g, float_change(width, r, b), hexfloat::condition(width, b))
 }
 
 fn complement(b: Words) -> Words
@@ -112,11 +108,7 @@ fn load_general(g: Registers, r: u32, w: u32) -> Verdict
     requires { ⌜ g .status .pointer + 1 < 65536 ⌝ }
     ensures { λ v. ⌜ says v ≡ gives (loadedGeneral g r w) ⌝ }
 {
-    granted(
-        g,
-        Change::General(r, w),
-        hexfloat::general_condition(w),
-    )
+    granted(g, Change::General(r, w), hexfloat::general_condition(w))
 }
 
 // UM.

@@ -51,14 +51,7 @@ pub fn run(
     let mut used = s.used;
     let mut count: u32 = 0;
     while count < limit {
-        let v = decide(
-            registers,
-            used,
-            deck,
-            memory,
-            protect,
-            journal.len(),
-        );
+        let v = decide(registers, used, deck, memory, protect, journal.len());
         match v {
             Verdict::Refused(stop) => {
                 return Ran {
