@@ -18,8 +18,7 @@ pub fn float_at(g: Registers, r: u32) -> u32
     requires { ⌜ r ≤ 7 ⌝ }
     ensures { λ w. ⌜ w ≡ floatAt g r ⌝ }
 {
-    let f = g.float;
-    f[r as usize]
+    g.float[r as usize]
 }
 
 // Registers r and (r + 1) mod 8.
@@ -37,8 +36,7 @@ pub fn general_at(g: Registers, r: u32) -> u32
     requires { ⌜ r ≤ 7 ⌝ }
     ensures { λ w. ⌜ w ≡ generalAt g r ⌝ }
 {
-    let n = g.general;
-    n[r as usize]
+    g.general[r as usize]
 }
 
 fn wide(x: u16) -> u32
