@@ -11,7 +11,7 @@ use Rattle.hexfloat.specs.Answer.{Answer, gives, stops}
 use Rattle.machine.specs.Says.{provided, andThen}
 use Rattle.machine.proofs.Answers.{gives-inj, never}
 use Rattle.decktext.specs.Text.{same}
-use Rattle.decktext.specs.Value.{all, isDigit, isHexadecimal, plain, numberFrom, codeAmong, codeOf, decimalOf, protectOf, wordOf, mnemonics}
+use Rattle.decktext.specs.Value.{all, isDigit, isHexadecimal, plain, numberFrom, codeAmong, mnemonicCode, decimalOf, protectOf, wordOf, mnemonics}
 
 -- a stop, if it is one, has one of some numbers
 abbrev pub Only : (ℕ → Type 0) → {A : Type 0} → Answer A → Type 0
@@ -57,8 +57,8 @@ unfolding codeAmong
 only-among [] n v = refl
 only-among (m ∷ ms) n v = only-cond Is16 (same v m) (gives n) (codeAmong ms (n + 1) v) tt (only-among ms (n + 1) v)
 
-pub only-code : (v : List ℕ) → Only16 (codeOf v)
-unfolding codeOf
+pub only-code : (v : List ℕ) → Only16 (mnemonicCode v)
+unfolding mnemonicCode
 only-code v = only-among mnemonics 1 v
 
 pub only-decimal : (v : List ℕ) → Only16 (decimalOf v)

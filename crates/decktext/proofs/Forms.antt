@@ -18,10 +18,10 @@ use Rattle.decktext.specs.declared.given.Given.{Given as GivenLine}
 use Rattle.decktext.specs.declared.line.Judged.{Judged}
 use Rattle.decktext.specs.Fault.{faultNumber}
 use Rattle.decktext.specs.Text.{same, valuesOf}
-use Rattle.decktext.specs.Value.{codeOf, decimalOf, protectOf, wordOf}
+use Rattle.decktext.specs.Value.{mnemonicCode, decimalOf, protectOf, wordOf}
 use Rattle.decktext.specs.Format.{deckHeading, storageHeading, passes, legal, orderFrom, orderOf, Halfword, halfwordFrom, halfwordOf}
 use Rattle.decktext.specs.Read.{Wanted, heading, order, storage, halfword, Progress, Given, headed, ordered, parted, stored, orderFits, halfwordFits, lineAs}
-use Rattle.decktext.specs.Walk.{Storable, valueCount, inPlace, valueAs, orderFromValues, halfwordFromValues, judgedAs, faultOf, saysJudged}
+use Rattle.decktext.specs.Walk.{Storable, valueCount, inPlace, valueAs, orderFromValues, halfwordFromValues, judgedLine, faultOf, saysJudged}
 use Rattle.decktext.proofs.Same.{same-none, same-length}
 use Rattle.decktext.proofs.Answers.{Is16, Only16, and-then-gives, only-provided, only-and-then, only-cond, only-code, only-decimal, only-protect, only-word, protect-small}
 use Rattle.decktext.proofs.Parsed.{Kind, parsed, Placed, parsed-only, wrong-count}
@@ -45,9 +45,9 @@ only-place i false last a o = only-cond Is16 (eqb i last) (stops 16) a refl o
 order-placed : Placed (valueAs order) 4
 unfolding valueAs
 order-placed = record {
-  last = λ i v x h. last-place i 3 (cond (eqb i 0) (codeOf v) (decimalOf v)) x h;
-  inner = λ i v x h. inner-place i 3 (cond (eqb i 0) (codeOf v) (decimalOf v)) x h;
-  only = λ i b v. only-place i b 3 (cond (eqb i 0) (codeOf v) (decimalOf v)) (only-cond Is16 (eqb i 0) (codeOf v) (decimalOf v) (only-code v) (only-decimal v));
+  last = λ i v x h. last-place i 3 (cond (eqb i 0) (mnemonicCode v) (decimalOf v)) x h;
+  inner = λ i v x h. inner-place i 3 (cond (eqb i 0) (mnemonicCode v) (decimalOf v)) x h;
+  only = λ i b v. only-place i b 3 (cond (eqb i 0) (mnemonicCode v) (decimalOf v)) (only-cond Is16 (eqb i 0) (mnemonicCode v) (decimalOf v) (only-code v) (only-decimal v));
 }
 
 halfword-placed : Placed (valueAs halfword) 3
@@ -100,7 +100,7 @@ order-parsed [] = refl
 order-parsed (m ∷ []) = wrong order-placed (m ∷ []) (λ e. omega arith) (λ xs. legal (orderFromValues xs))
 order-parsed (m ∷ a ∷ []) = wrong order-placed (m ∷ a ∷ []) (λ e. omega arith) (λ xs. legal (orderFromValues xs))
 order-parsed (m ∷ a ∷ b ∷ []) = wrong order-placed (m ∷ a ∷ b ∷ []) (λ e. omega arith) (λ xs. legal (orderFromValues xs))
-order-parsed (m ∷ a ∷ b ∷ c ∷ []) = four (codeOf m) (decimalOf a) (decimalOf b) (decimalOf c) (λ xs. legal (orderFromValues xs))
+order-parsed (m ∷ a ∷ b ∷ c ∷ []) = four (mnemonicCode m) (decimalOf a) (decimalOf b) (decimalOf c) (λ xs. legal (orderFromValues xs))
 order-parsed (m ∷ a ∷ b ∷ c ∷ d ∷ vs) = wrong order-placed (m ∷ a ∷ b ∷ c ∷ d ∷ vs) (λ e. omega arith) (λ xs. legal (orderFromValues xs))
 
 three : {B : Type 0} (a b c : Answer ℕ) (f : List ℕ → Answer B)
@@ -140,14 +140,14 @@ abbrev pub Values : Wanted → List ℕ → List ℕ → Type 0
 Values w line v = 0 < valueCount w (length line) → parsed (valueAs w) 0 (valuesOf line) ≡ gives (take (valueCount w (length line)) v)
 
 judged-order : (p : Progress) (line v : List ℕ) → length v ≡ 4 → (t : Bool) → eqb (length line) 0 ≡ t
-    → (0 < cond t 0 4 → parsed (valueAs order) 0 (valuesOf line) ≡ gives (take (cond t 0 4) v)) → lineAs order p line ≡ judgedAs order p line v
-unfolding orderOf judgedAs
+    → (0 < cond t 0 4 → parsed (valueAs order) 0 (valuesOf line) ≡ gives (take (cond t 0 4) v)) → lineAs order p line ≡ judgedLine order p line v
+unfolding orderOf judgedLine
 judged-order p line v s true e h = rw (same-none line (eqb-true (length line) 0 e))
 judged-order p line v s false e h =
     rw (same-length line [] (eqb-false (length line) 0 e), order-parsed (valuesOf line), h (omega arith), take-all 4 v (omega arith))
 
-pub judged : (w : Wanted) (p : Progress) (line v : List ℕ) → length v ≡ 4 → Values w line v → lineAs w p line ≡ judgedAs w p line v
-unfolding halfwordOf judgedAs
+pub judged : (w : Wanted) (p : Progress) (line v : List ℕ) → length v ≡ 4 → Values w line v → lineAs w p line ≡ judgedLine w p line v
+unfolding halfwordOf judgedLine
 judged heading p line v s h = refl
 judged order p line v s h = judged-order p line v s (eqb (length line) 0) refl h
 judged storage p line v s h = refl
@@ -205,7 +205,7 @@ Sound halfword p (ordered o) = ⊥
 Sound halfword p parted = ⊥
 Sound halfword p (stored h) = (p .least ≤ h .at) × Fits p (stored h)
 
-heading-given : (ok : Bool) (g : Given) → provided ok 16 (gives headed) ≡ gives g → headed ≡ g
+pub heading-given : (ok : Bool) (g : Given) → provided ok 16 (gives headed) ≡ gives g → headed ≡ g
 heading-given ok g h = gives-inj (provided-gives ok 16 (gives headed) h .1)
 
 order-sound : (p : Progress) (line : List ℕ) (t : Bool) (g : Given) → cond t (gives parted) (andThen (orderOf line) (orderFits p)) ≡ gives g → Sound order p g

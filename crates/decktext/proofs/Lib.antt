@@ -4,11 +4,15 @@ mod Tags
 mod Held
 mod Digits
 mod Names
+mod Slots
 mod Decimals
 mod Lines
 mod Answers
 mod Parsed
 mod Forms
+mod Cells
+mod Staging
+mod Widths
 mod Walking
 mod Readings
 mod Passing

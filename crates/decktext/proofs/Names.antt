@@ -10,8 +10,8 @@ use lib.Dec.{eqb, leb, ltb}
 use borrow.Author.Tests.{eqb-true, eqb-false, leb-true, ltb-true, lt-ltb}
 use Rattle.hexfloat.specs.Answer.{stops}
 use Rattle.decktext.specs.Text.{same}
-use Rattle.decktext.specs.Value.{mnemonics, codeAmong, codeOf}
-use Rattle.decktext.specs.Key.{bytesFrom, keyOf, codeAmongKeys, codeByKey}
+use Rattle.decktext.specs.Value.{mnemonics, codeAmong, mnemonicCode}
+use Rattle.decktext.specs.Key.{bytesFrom, nameKey, codeAmongKeys, codeByKey}
 use Rattle.decktext.proofs.Same.{and-true, same-refl, same-false, same-length}
 
 -- all below 256
@@ -46,8 +46,8 @@ record Short (v : List ℕ) : Type 0 where
   bytes : allBytes v ≡ true
   few : length v ≤ 4
 
-key-inj : (v w : List ℕ) → Short v → Short w → keyOf v ≡ keyOf w → v ≡ w
-unfolding keyOf
+key-inj : (v w : List ℕ) → Short v → Short w → nameKey v ≡ nameKey w → v ≡ w
+unfolding nameKey
 key-inj v w a b e =
     let f = a .few in
     let g = b .few in
@@ -55,18 +55,18 @@ key-inj v w a b e =
     let n : bytesFrom 0 v ≡ bytesFrom 0 w = omega arith in
     bytes-inj v w 0 0 (a .bytes) (b .bytes) l n .names
 
-same-key-by : (v w : List ℕ) → Short v → Short w → (t : Bool) → eqb (keyOf v) (keyOf w) ≡ t → same v w ≡ t
+same-key-by : (v w : List ℕ) → Short v → Short w → (t : Bool) → eqb (nameKey v) (nameKey w) ≡ t → same v w ≡ t
 same-key-by v w a b true e = rw (key-inj v w a b (eqb-true _ _ e)) (same-refl w)
-same-key-by v w a b false e = same-false v w (λ q. eqb-false _ _ e (ap keyOf q))
+same-key-by v w a b false e = same-false v w (λ q. eqb-false _ _ e (ap nameKey q))
 
-same-key : (v w : List ℕ) → Short v → Short w → same v w ≡ eqb (keyOf v) (keyOf w)
-same-key v w a b = same-key-by v w a b (eqb (keyOf v) (keyOf w)) refl
+same-key : (v w : List ℕ) → Short v → Short w → same v w ≡ eqb (nameKey v) (nameKey w)
+same-key v w a b = same-key-by v w a b (eqb (nameKey v) (nameKey w)) refl
 
 abbrev allShort : List (List ℕ) → Bool
 allShort [] = true
 allShort (m ∷ ms) = (allBytes m && leb (length m) 4) && allShort ms
 
-among : (ms : List (List ℕ)) (n : ℕ) (v : List ℕ) → Short v → allShort ms ≡ true → codeAmong ms n v ≡ codeAmongKeys ms n (keyOf v)
+among : (ms : List (List ℕ)) (n : ℕ) (v : List ℕ) → Short v → allShort ms ≡ true → codeAmong ms n v ≡ codeAmongKeys ms n (nameKey v)
 unfolding codeAmong codeAmongKeys
 among [] n v s h = refl
 among (m ∷ ms) n v s h =
@@ -78,8 +78,8 @@ bytes-of : (v : List ℕ) → ((i : ℕ) → i < length v → getD v i 0 < 256) 
 bytes-of [] h = refl
 bytes-of (x ∷ v) h = rw (lt-ltb x 256 (h 0 (zero-lt-suc (length v))), bytes-of v (λ i l. h (suc i) (suc-le-suc l)))
 
-pub code-by-key : (v : List ℕ) → ((i : ℕ) → i < length v → getD v i 0 < 256) → length v ≤ 4 → codeOf v ≡ codeByKey (keyOf v)
-unfolding codeOf codeByKey
+pub code-by-key : (v : List ℕ) → ((i : ℕ) → i < length v → getD v i 0 < 256) → length v ≤ 4 → mnemonicCode v ≡ codeByKey (nameKey v)
+unfolding mnemonicCode codeByKey
 code-by-key v h l = among mnemonics 1 v (record { bytes = bytes-of v h; few = l }) refl
 
 -- a long name is none of them
@@ -91,6 +91,6 @@ long-among (m ∷ ms) n v l h =
     let q = leb-true (length m) 4 (and-true (allBytes m) (leb (length m) 4) (p .0) .1) in
     rw (same-length v m (λ e. omega arith)) (long-among ms (n + 1) v l (p .1))
 
-pub code-long : (v : List ℕ) → 4 < length v → codeOf v ≡ stops 16
-unfolding codeOf
+pub code-long : (v : List ℕ) → 4 < length v → mnemonicCode v ≡ stops 16
+unfolding mnemonicCode
 code-long v l = long-among mnemonics 1 v l refl

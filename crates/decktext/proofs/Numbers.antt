@@ -14,13 +14,13 @@ use Rattle.machine.specs.Says.{provided, andThen}
 use Rattle.machine.proofs.Answers.{gives-inj, provided-gives}
 use Rattle.decktext.specs.Text.{Line, ended, unended, linesOf, same}
 use Rattle.decktext.specs.Format.{deckHeading, storageHeading, orderOf, halfwordOf}
-use Rattle.decktext.specs.Read.{Buffers, refused, taken, outcome, Wanted, heading, order, storage, halfword, Progress, start, Given, headed, ordered, parted, stored, orderFits, halfwordFits, lineAs, lineRead, advanced, Read, whole, faulty, linesRead, settled, readText}
+use Rattle.decktext.specs.Read.{Buffers, refused, taken, outcome, Wanted, heading, order, storage, halfword, Progress, start, Given, headed, ordered, parted, stored, orderFits, halfwordFits, lineAs, lineRead, progressed, Read, whole, faulty, linesRead, concludedWith, readText}
 use Rattle.decktext.specs.Theorems.{Through, Faulty, Numbered, count, malformed, noRoom, aboveLimit, upToEmpty, afterFirst, orderLines}
 use Rattle.decktext.proofs.Answers.{Is16or17, Only, only-either, only-provided, only-and-then, only-cond, and-then-gives}
 use Rattle.decktext.proofs.Forms.{Sound, order-only, halfword-only}
 use Rattle.decktext.proofs.Laws.{accepted}
 use Rattle.decktext.proofs.Passing.{read-on, through, first-fault, line-sound}
-use Rattle.decktext.proofs.Walking.{all, other}
+use Rattle.decktext.proofs.Walking.{textRead, other}
 
 -- ---- one of the numbers
 
@@ -49,8 +49,8 @@ fault-number [] p n f = inl (f .1)
 fault-number (unended l ∷ ls) p n f = inl f
 fault-number (ended l ∷ ls) p n f = rw f at (line-only (p .wanted) p l)
 
-numbered-by : (t : List ℕ) (b : Buffers) (limit : Bool) (x : Read) → ltb 32768 (length t) ≡ limit → all t b ≡ x
-    → Numbered t (cond limit (outcome b (refused 17 0)) (settled b x) .said)
+numbered-by : (t : List ℕ) (b : Buffers) (limit : Bool) (x : Read) → ltb 32768 (length t) ≡ limit → textRead t b ≡ x
+    → Numbered t (cond limit (outcome b (refused 17 0)) (concludedWith b x) .said)
 numbered-by t b true x l e = aboveLimit (ltb-true 32768 (length t) l)
 numbered-by t b false (whole p) l e = count (p .count) (ltb-false 32768 (length t) l)
 numbered-by t b false (faulty n k) l e =
@@ -61,7 +61,7 @@ numbered-by t b false (faulty n k) l e =
 
 pub numbered : (t : List ℕ) (b : Buffers) → Numbered t (readText t b .said)
 unfolding readText
-numbered t b = numbered-by t b (ltb 32768 (length t)) (all t b) refl refl
+numbered t b = numbered-by t b (ltb 32768 (length t)) (textRead t b) refl refl
 
 -- ---- the reader's count
 
@@ -72,8 +72,8 @@ Past order = ⊥
 Past storage = Unit {0}
 Past halfword = Unit {0}
 
-past-on : (w : Wanted) (p : Progress) (g : Given) → p .wanted ≡ w → Past w → Sound w p g → (advanced g p .count ≡ p .count) × Past (advanced g p .wanted)
-unfolding advanced
+past-on : (w : Wanted) (p : Progress) (g : Given) → p .wanted ≡ w → Past w → Sound w p g → (progressed g p .count ≡ p .count) × Past (progressed g p .wanted)
+unfolding progressed
 past-on heading p g e past s = absurd past
 past-on order p g e past s = absurd past
 past-on storage p headed e past s = (refl, rw e tt)
@@ -90,7 +90,7 @@ past-count [] p q past h = ap (λ (x : Progress). x .count) (sym h)
 past-count (unended l ∷ ls) p q past h = absurd h
 past-count (ended l ∷ ls) p q past h =
     let s = past-on (p .wanted) p (h .0) refl past (line-sound p l (h .0) (h .1)) in
-    past-count ls (advanced (h .0) p) q (s .1) (h .2) ∙ s .0
+    past-count ls (progressed (h .0) p) q (s .1) (h .2) ∙ s .0
 
 -- where an order is wanted, an empty line ends the orders, and any other is one
 empty-line : (p : Progress) (g : Given) → p .wanted ≡ order → lineRead p [] ≡ gives g → g ≡ parted
@@ -104,17 +104,17 @@ order-line p b l g e h =
     (q .0, sym (gives-inj (provided-gives (leb (p .count * 4 + 4) (length (p .held .cells))) 17 (gives (ordered (q .0))) (q .2) .1)))
 
 orders-count : (ls : List Line) (p q : Progress) → p .wanted ≡ order → Through ls p q → q .count ≡ p .count + length (upToEmpty ls)
-unfolding advanced
+unfolding progressed
 orders-count [] p q e h = let z = ap (λ (x : Progress). x .count) h in omega arith
 orders-count (unended l ∷ ls) p q e h = absurd h
 orders-count (ended [] ∷ ls) p q e h =
-    let r : Through ls (advanced parted p) q = rw (empty-line p (h .0) e (h .1)) at (h .2) in
-    let z = past-count ls (advanced parted p) q tt r in
+    let r : Through ls (progressed parted p) q = rw (empty-line p (h .0) e (h .1)) at (h .2) in
+    let z = past-count ls (progressed parted p) q tt r in
     omega arith
 orders-count (ended (b ∷ l) ∷ ls) p q e h =
     let o = order-line p b l (h .0) e (h .1) in
-    let r : Through ls (advanced (ordered (o .0)) p) q = rw (o .1) at (h .2) in
-    let z = orders-count ls (advanced (ordered (o .0)) p) q refl r in
+    let r : Through ls (progressed (ordered (o .0)) p) q = rw (o .1) at (h .2) in
+    let z = orders-count ls (progressed (ordered (o .0)) p) q refl r in
     omega arith
 
 heading-line : (p : Progress) (g : Given) → Sound heading p g → g ≡ headed
@@ -124,13 +124,13 @@ heading-line p parted s = absurd s
 heading-line p (stored h) s = absurd s
 
 text-count : (ls : List Line) (b : Buffers) (q : Progress) → linesRead ls (start b) 1 ≡ whole q → q .count ≡ length (upToEmpty (afterFirst ls))
-unfolding linesRead advanced
+unfolding linesRead progressed
 text-count [] b q h = other h
 text-count (unended l ∷ ls) b q h = other h
 text-count (ended l ∷ ls) b q h =
     let r = read-on (lineRead (start b) l) (start b) q 1 (λ x. linesRead ls x 2) h in
-    let s : linesRead ls (advanced headed (start b)) 2 ≡ whole q = rw (heading-line (start b) (r .0) (line-sound (start b) l (r .0) (r .1))) at (r .2) in
-    let z = orders-count ls (advanced headed (start b)) q refl (through ls (advanced headed (start b)) q 2 s) in
+    let s : linesRead ls (progressed headed (start b)) 2 ≡ whole q = rw (heading-line (start b) (r .0) (line-sound (start b) l (r .0) (r .1))) at (r .2) in
+    let z = orders-count ls (progressed headed (start b)) q refl (through ls (progressed headed (start b)) q 2 s) in
     omega arith
 
 pub counted : (t : List ℕ) (b : Buffers) (n : ℕ) → readText t b .said ≡ taken n → n ≡ length (orderLines t)

@@ -3,30 +3,22 @@ use Prim.Native.Nat.{ℕ, _+_, _*_, _≤_, _<_}
 use mathlib.Core.Path.{_≡_, refl, sym, ap, _∙_, subst}
 use mathlib.Core.List.{List, [], _∷_, _++_}
 use native.Mathlib.Omega.{arith}
-use lib.ListN.{length, getD, set, length-set}
-use lib.Seq.{getD-set-same, getD-set-other}
+use lib.ListN.{length, getD, length-set}
+use lib.Seq.{getD-set-other}
 use Rattle.hexfloat.specs.Answer.{Answer, gives, stops}
 use Rattle.machine.specs.declared.order.Order.{Order}
 use Rattle.machine.specs.Order.{orderAt}
 use Rattle.decktext.specs.Text.{Line, ended, unended}
-use Rattle.decktext.specs.Read.{Wanted, heading, order, storage, halfword, Progress, Given, headed, ordered, parted, stored, lineRead, withCells, bufferedWith, advanced, Read, whole, faulty, endRead, readOn, linesRead}
+use Rattle.decktext.specs.Read.{Wanted, heading, order, storage, halfword, Progress, Given, headed, ordered, parted, stored, lineRead, bufferedWith, progressed, Read, whole, faulty, endRead, readOn, linesRead}
 use Rattle.decktext.specs.Theorems.{Through, Faulty}
 use Rattle.decktext.proofs.Forms.{Sound, sound, sound-fits, sound-rises}
-use Rattle.decktext.proofs.Walking.{other}
+use Rattle.decktext.proofs.Cells.{order-kept}
+use Rattle.decktext.proofs.Walking.{other, end-whole}
 
 -- ---- lines that go through, and lines that are read
 
-whole-inj : {p q : Progress} → whole p ≡ whole q → p ≡ q
-whole-inj h = cc
-
-end-whole : (w : Wanted) (p q : Progress) (k : ℕ) → endRead w p k ≡ whole q → p ≡ q
-end-whole heading p q k h = other h
-end-whole order p q k h = whole-inj h
-end-whole storage p q k h = other h
-end-whole halfword p q k h = whole-inj h
-
 -- a line that was read, with what came of those after it
-pub read-on : (a : Answer Given) (p q : Progress) (k : ℕ) (rest : Progress → Read) → readOn a p k rest ≡ whole q → (g : Given) × (a ≡ gives g) × (rest (advanced g p) ≡ whole q)
+pub read-on : (a : Answer Given) (p q : Progress) (k : ℕ) (rest : Progress → Read) → readOn a p k rest ≡ whole q → (g : Given) × (a ≡ gives g) × (rest (progressed g p) ≡ whole q)
 read-on (gives g) p q k rest h = (g, refl, h)
 read-on (stops n) p q k rest h = other h
 
@@ -36,21 +28,21 @@ through [] p q k h = end-whole (p .wanted) p q k h
 through (unended l ∷ ls) p q k h = other h
 through (ended l ∷ ls) p q k h =
     let r = read-on (lineRead p l) p q k (λ x. linesRead ls x (k + 1)) h in
-    (r .0, r .1, through ls (advanced (r .0) p) q (k + 1) (r .2))
+    (r .0, r .1, through ls (progressed (r .0) p) q (k + 1) (r .2))
 
 pub skip : (before rest : List Line) (p q : Progress) (k : ℕ) → Through before p q → linesRead (before ++ rest) p k ≡ linesRead rest q (k + length before)
 unfolding linesRead
 skip [] rest p q k h = let z : k ≡ k + 0 = omega arith in rw (h, ← z)
 skip (unended l ∷ before) rest p q k h = absurd h
 skip (ended l ∷ before) rest p q k h =
-    rw (h .1) (skip before rest (advanced (h .0) p) q (k + 1) (h .2) ∙ ap (λ (n : ℕ). linesRead rest q n) (omega arith))
+    rw (h .1) (skip before rest (progressed (h .0) p) q (k + 1) (h .2) ∙ ap (λ (n : ℕ). linesRead rest q n) (omega arith))
 
 -- the first of some lines that go through do so themselves
 pub front : (before after : List Line) (p q : Progress) → Through (before ++ after) p q → (r : Progress) × Through before p r
 front [] after p q h = (p, refl)
 front (unended l ∷ before) after p q h = absurd h
 front (ended l ∷ before) after p q h =
-    let s = front before after (advanced (h .0) p) q (h .2) in
+    let s = front before after (progressed (h .0) p) q (h .2) in
     (s .0, (h .0, h .1, s .1))
 
 -- ---- the first fault
@@ -82,7 +74,7 @@ end-fault order p k n j e h = other′ h
 end-fault storage p k n j e h = at-once [] p k n j (faulty-line h) (rw e (tt, sym (faulty-number h)))
 end-fault halfword p k n j e h = other′ h
 
-later : (l : List ℕ) (ls : List Line) (p : Progress) (k n j : ℕ) (g : Given) → lineRead p l ≡ gives g → Fault ls (advanced g p) (k + 1) n j → Fault (ended l ∷ ls) p k n j
+later : (l : List ℕ) (ls : List Line) (p : Progress) (k n j : ℕ) (g : Given) → lineRead p l ≡ gives g → Fault ls (progressed g p) (k + 1) n j → Fault (ended l ∷ ls) p k n j
 later l ls p k n j g e f = record {
   before = ended l ∷ f .before;
   rest = f .rest;
@@ -94,7 +86,7 @@ later l ls p k n j g e f = record {
 }
 
 fault-on : (l : List ℕ) (ls : List Line) (p : Progress) (k n j : ℕ) (a : Answer Given) → lineRead p l ≡ a → readOn a p k (λ q. linesRead ls q (k + 1)) ≡ faulty n j
-    → ((g : Given) → linesRead ls (advanced g p) (k + 1) ≡ faulty n j → Fault ls (advanced g p) (k + 1) n j) → Fault (ended l ∷ ls) p k n j
+    → ((g : Given) → linesRead ls (progressed g p) (k + 1) ≡ faulty n j → Fault ls (progressed g p) (k + 1) n j) → Fault (ended l ∷ ls) p k n j
 fault-on l ls p k n j (gives g) e h rest = later l ls p k n j g e (rest g h)
 fault-on l ls p k n j (stops m) e h rest = at-once (ended l ∷ ls) p k n j (faulty-line h) (e ∙ ap (λ (x : ℕ). stops x) (faulty-number h))
 
@@ -102,49 +94,9 @@ pub first-fault : (ls : List Line) (p : Progress) (k n j : ℕ) → linesRead ls
 unfolding linesRead
 first-fault [] p k n j h = end-fault (p .wanted) p k n j refl h
 first-fault (unended l ∷ ls) p k n j h = at-once (unended l ∷ ls) p k n j (faulty-line h) (sym (faulty-number h))
-first-fault (ended l ∷ ls) p k n j h = fault-on l ls p k n j (lineRead p l) refl h (λ g r. first-fault ls (advanced g p) (k + 1) n j r)
+first-fault (ended l ∷ ls) p k n j h = fault-on l ls p k n j (lineRead p l) refl h (λ g r. first-fault ls (progressed g p) (k + 1) n j r)
 
 -- ---- what a line keeps
-
--- the cells before an order's four
-cell-kept : (c : List ℕ) (n m : ℕ) (o : Order) → m < n * 4 → getD (withCells n o c) m 0 ≡ getD c m 0
-cell-kept c n m o h =
-    let c1 = set c (n * 4) (o .code) in
-    let c2 = set c1 (n * 4 + 1) (o .r1) in
-    let c3 = set c2 (n * 4 + 2) (o .r2) in
-    getD-set-other c3 (n * 4 + 3) m (o .at) 0 (λ e. omega arith)
-    ∙ getD-set-other c2 (n * 4 + 2) m (o .r2) 0 (λ e. omega arith)
-    ∙ getD-set-other c1 (n * 4 + 1) m (o .r1) 0 (λ e. omega arith)
-    ∙ getD-set-other c (n * 4) m (o .code) 0 (λ e. omega arith)
-
-order-kept : (c : List ℕ) (n j : ℕ) (o : Order) → j < n → orderAt (withCells n o c) j ≡ orderAt c j
-order-kept c n j o h =
-    let a = cell-kept c n (j * 4) o (omega arith) in
-    let b = cell-kept c n (j * 4 + 1) o (omega arith) in
-    let d = cell-kept c n (j * 4 + 2) o (omega arith) in
-    let e = cell-kept c n (j * 4 + 3) o (omega arith) in
-    rw (a, b, d, e)
-
--- the order's own four
-pub order-put : (c : List ℕ) (n : ℕ) (o : Order) → n * 4 + 4 ≤ length c → orderAt (withCells n o c) n ≡ o
-order-put c n o h =
-    let c1 = set c (n * 4) (o .code) in
-    let c2 = set c1 (n * 4 + 1) (o .r1) in
-    let c3 = set c2 (n * 4 + 2) (o .r2) in
-    let a : getD (withCells n o c) (n * 4) 0 ≡ o .code =
-    getD-set-other c3 (n * 4 + 3) (n * 4) (o .at) 0 (λ e. omega arith)
-    ∙ getD-set-other c2 (n * 4 + 2) (n * 4) (o .r2) 0 (λ e. omega arith)
-    ∙ getD-set-other c1 (n * 4 + 1) (n * 4) (o .r1) 0 (λ e. omega arith)
-    ∙ getD-set-same c (n * 4) (o .code) 0 (omega arith) in
-    let b : getD (withCells n o c) (n * 4 + 1) 0 ≡ o .r1 =
-    getD-set-other c3 (n * 4 + 3) (n * 4 + 1) (o .at) 0 (λ e. omega arith)
-    ∙ getD-set-other c2 (n * 4 + 2) (n * 4 + 1) (o .r2) 0 (λ e. omega arith)
-    ∙ getD-set-same c1 (n * 4 + 1) (o .r1) 0 (simp length-set (omega arith)) in
-    let d : getD (withCells n o c) (n * 4 + 2) 0 ≡ o .r2 =
-    getD-set-other c3 (n * 4 + 3) (n * 4 + 2) (o .at) 0 (λ e. omega arith)
-    ∙ getD-set-same c2 (n * 4 + 2) (o .r2) 0 (simp length-set (omega arith)) in
-    let e : getD (withCells n o c) (n * 4 + 3) 0 ≡ o .at = getD-set-same c3 (n * 4 + 3) (o .at) 0 (simp length-set (omega arith)) in
-    rw (a, b, d, e)
 
 pub record Kept (p q : Progress) : Type 0 where
   pub orders : p .count ≤ q .count
@@ -166,8 +118,8 @@ same-kept p q n l h = record {
   room = λ r. rw (← n, ← h) r;
 }
 
-kept : (w : Wanted) (p : Progress) (g : Given) → Sound w p g → Kept p (advanced g p)
-unfolding advanced bufferedWith
+kept : (w : Wanted) (p : Progress) (g : Given) → Sound w p g → Kept p (progressed g p)
+unfolding progressed bufferedWith
 kept w p headed s = same-kept p _ refl refl refl
 kept w p parted s = same-kept p _ refl refl refl
 kept w p (ordered o) s = record {
@@ -210,7 +162,7 @@ pub all-kept : (ls : List Line) (p q : Progress) → Through ls p q → Kept p q
 all-kept [] p q h = same-kept p q (ap (λ (x : Progress). x .count) h) (ap (λ (x : Progress). x .least) h) (ap (λ (x : Progress). x .held) h)
 all-kept (unended l ∷ ls) p q h = absurd h
 all-kept (ended l ∷ ls) p q h =
-    kept-trans (kept (p .wanted) p (h .0) (line-sound p l (h .0) (h .1))) (all-kept ls (advanced (h .0) p) q (h .2))
+    kept-trans (kept (p .wanted) p (h .0) (line-sound p l (h .0) (h .1))) (all-kept ls (progressed (h .0) p) q (h .2))
 
 -- ---- an order's place
 
@@ -221,8 +173,8 @@ Counted order n m = m ≡ n + 1
 Counted storage n m = Unit {0}
 Counted halfword n m = Unit {0}
 
-counted : (w : Wanted) (p : Progress) (g : Given) (m : ℕ) → p .wanted ≡ w → Sound w p g → Counted w (p .count) m → Counted (advanced g p .wanted) (advanced g p .count) (m + 1)
-unfolding advanced
+counted : (w : Wanted) (p : Progress) (g : Given) (m : ℕ) → p .wanted ≡ w → Sound w p g → Counted w (p .count) m → Counted (progressed g p .wanted) (progressed g p .count) (m + 1)
+unfolding progressed
 counted heading p headed m e s c = rw e (omega arith)
 counted heading p (ordered o) m e s c = absurd s
 counted heading p parted m e s c = absurd s
@@ -246,7 +198,7 @@ all-counted (unended l ∷ ls) p q m h c = absurd h
 all-counted (ended l ∷ ls) p q m h c =
     let z : m + 1 + length ls ≡ m + length (ended l ∷ ls) = omega arith in
     subst (λ (n : ℕ). Counted (q .wanted) (q .count) n) z
-    (all-counted ls (advanced (h .0) p) q (m + 1) (h .2) (counted (p .wanted) p (h .0) m refl (line-sound p l (h .0) (h .1)) c))
+    (all-counted ls (progressed (h .0) p) q (m + 1) (h .2) (counted (p .wanted) p (h .0) m refl (line-sound p l (h .0) (h .1)) c))
 
 pub order-wanted : (w : Wanted) (p : Progress) (o : Order) → Sound w p (ordered o) → w ≡ order
 order-wanted heading p o s = absurd s

@@ -8,24 +8,25 @@ use lib.Seq.{getD-set-same}
 use Rattle.hexfloat.specs.Answer.{gives}
 use Rattle.machine.specs.Order.{orderAt}
 use Rattle.decktext.specs.Text.{Line, ended, linesOf}
-use Rattle.decktext.specs.Read.{Buffers, refused, taken, Outcome, Progress, start, Given, ordered, stored, order, lineRead, bufferedWith, advanced, Read, whole, faulty, settled, linesRead, readText}
+use Rattle.decktext.specs.Read.{Buffers, refused, taken, Outcome, Progress, start, Given, ordered, stored, order, lineRead, bufferedWith, progressed, Read, whole, faulty, concludedWith, linesRead, readText}
 use Rattle.decktext.specs.Theorems.{Through, FirstFault, Written, Reader}
+use Rattle.decktext.proofs.Cells.{order-put}
 use Rattle.decktext.proofs.Forms.{sound-fits}
 use Rattle.decktext.proofs.Laws.{accepted}
-use Rattle.decktext.proofs.Passing.{front, through, skip, first-fault, order-put, all-kept, Kept, line-sound, Counted, all-counted, order-wanted}
+use Rattle.decktext.proofs.Passing.{front, through, skip, first-fault, all-kept, Kept, line-sound, Counted, all-counted, order-wanted}
 use Rattle.decktext.proofs.Numbers.{numbered, counted}
 use Rattle.decktext.proofs.Readings.{apart, within-limit}
-use Rattle.decktext.proofs.Walking.{all}
+use Rattle.decktext.proofs.Walking.{textRead}
 
 -- ---- the first fault
 
-refused-by : (b : Buffers) (x : Read) (n k : ℕ) → settled b x .said ≡ refused n k → x ≡ faulty n k
+refused-by : (b : Buffers) (x : Read) (n k : ℕ) → concludedWith b x .said ≡ refused n k → x ≡ faulty n k
 refused-by b (whole p) n k h = apart h
 refused-by b (faulty m j) n k h = cc
 
 refusal : (t : List ℕ) (b : Buffers) (n k : ℕ) → length t ≤ 32768 → readText t b .said ≡ refused n k → FirstFault t b n k
 refusal t b n k l h =
-    let f = first-fault (linesOf t) (start b) 1 n k (refused-by b (all t b) n k (sym (ap (λ (o : Outcome). o .said) (within-limit t b l)) ∙ h)) in
+    let f = first-fault (linesOf t) (start b) 1 n k (refused-by b (textRead t b) n k (sym (ap (λ (o : Outcome). o .said) (within-limit t b l)) ∙ h)) in
     record {
       before = f .before;
       rest = f .rest;
@@ -41,21 +42,21 @@ refusal t b n k l h =
 -- the lines after one that was read keep what it wrote
 module _ (t : List ℕ) (b : Buffers) (n : ℕ) (taken-in : readText t b .said ≡ taken n) (before after : List Line) (line : List ℕ) (p : Progress)
     (cut : linesOf t ≡ before ++ (ended line ∷ after)) (gone : Through before (start b) p) (g : Given) (given : lineRead p line ≡ gives g) where
-  later : linesRead after (advanced g p) (1 + length before + 1) ≡ whole (accepted t b n taken-in .given)
+  later : linesRead after (progressed g p) (1 + length before + 1) ≡ whole (accepted t b n taken-in .given)
   unfolding linesRead
   later =
       let e : linesRead (ended line ∷ after) p (1 + length before) ≡ whole (accepted t b n taken-in .given) =
       sym (skip before (ended line ∷ after) (start b) p 1 gone) ∙ ap (λ (ls : List Line). linesRead ls (start b) 1) (sym cut) ∙ accepted t b n taken-in .lines in
       rw given at e
 
-  rest-kept : Kept (advanced g p) (accepted t b n taken-in .given)
-  rest-kept = all-kept after (advanced g p) (accepted t b n taken-in .given) (through after (advanced g p) (accepted t b n taken-in .given) (1 + length before + 1) later)
+  rest-kept : Kept (progressed g p) (accepted t b n taken-in .given)
+  rest-kept = all-kept after (progressed g p) (accepted t b n taken-in .given) (through after (progressed g p) (accepted t b n taken-in .given) (1 + length before + 1) later)
 
   held-after : readText t b .after ≡ accepted t b n taken-in .given .held
   held-after = ap (λ (o : Outcome). o .after) (accepted t b n taken-in .reading)
 
 written : (t : List ℕ) (b : Buffers) (n : ℕ) → readText t b .said ≡ taken n → Written t b
-unfolding advanced bufferedWith
+unfolding progressed bufferedWith
 written t b n h = record {
   through = λ before after cut.
       let a = accepted t b n h in

@@ -1,52 +1,67 @@
 -- The walk over the lines: what holds between two lines, and its laws (start, on, end and the two faults).
-use Prim.Native.Nat.{ℕ, _+_, _≤_, _<_, zero-le}
-use mathlib.Core.Path.{_≡_, refl, sym, ap, _∙_}
-use mathlib.Core.Bool.{Bool, true, false, cond}
+use Prim.Native.Nat.{ℕ, _+_, _*_, _≤_, _<_, zero-le}
+use mathlib.Core.Path.{_≡_, refl, sym, ap, subst, _∙_}
 use mathlib.Core.List.{List}
 use native.Mathlib.Omega.{arith}
 use lib.ListN.{length, drop, length-set}
 use Rattle.hexfloat.specs.Answer.{gives, stops}
-use Rattle.decktext.specs.declared.deck.Reading.{Reading}
+use Rattle.decktext.specs.declared.deck.Found.{Found}
 use Rattle.decktext.specs.declared.line.Progress.{Progress as Place}
 use Rattle.decktext.specs.declared.line.Sizes.{Sizes}
 use Rattle.decktext.specs.declared.fault.Fault.{Fault}
 use Rattle.decktext.specs.Fault.{faultNumber}
 use Rattle.decktext.specs.Text.{linesOf}
-use Rattle.decktext.specs.Read.{Buffers, refused, saysReading, Wanted, heading, order, storage, halfword, Progress, start as begun, Given, headed, ordered, parted, stored, lineRead, bufferedWith, advanced, Read, whole, faulty, endRead, linesRead}
+use Rattle.decktext.specs.Read.{Buffers, refused, saysReading, Wanted, heading, order, storage, halfword, Progress, start as begun, Given, headed, ordered, parted, stored, lineRead, bufferedWith, progressed, Read, whole, faulty, endRead, linesRead}
 use Rattle.decktext.specs.Walk.{Stretch, Storable, wantedOf, progressOf, Sized, endSaid, concluded, saidOf, Walked}
-use Rattle.decktext.proofs.Forms.{fits}
-use Rattle.decktext.proofs.Lines.{part, line-ended, line-unended, no-line}
+use Rattle.decktext.specs.Staged.{placeAfter, valuesIn, halfwordsWith, stagedWith, replayed, Landing}
+use Rattle.decktext.proofs.Forms.{Sound, sound, sound-fits}
+use Rattle.decktext.proofs.Lines.{part, length-part, line-ended, line-unended, no-line}
+use Rattle.decktext.proofs.Staging.{Follows, ordersWith, size-with, place-with, replayed-none, replayed-with, landing-none, landing-with}
+use Rattle.decktext.proofs.Widths.{line-bytes}
 
 -- the whole text as the definition reads it
-abbrev pub all : List ℕ → Buffers → Read
-all t b = linesRead (linesOf t) (begun b) 1
+abbrev pub textRead : List ℕ → Buffers → Read
+textRead t b = linesRead (linesOf t) (begun b) 1
 
--- the lines before `at` gave p and `held`; the buffers hold that where they are written, else what they held
-pub record Walking (t : List ℕ) (b : Buffers) (s : Sizes) (writes : Bool) (p : Place) (at line : ℕ) (now : Buffers) : Type 0 where
-  pub held : Buffers
-  pub sized : Sized held s
+-- there are no halfwords before the second heading
+abbrev pub Early : Wanted → ℕ → Type 0
+Early heading k = k ≡ 0
+Early order k = k ≡ 0
+Early storage k = k ≡ 0
+Early halfword k = Unit {0}
+
+-- the progress that the definition has where the staging array stands for what the lines gave
+abbrev pub reached : Place → ℕ → List ℕ → Buffers → Progress
+reached p k staged b = progressOf p (replayed staged (p .count) k b)
+
+-- the lines before `at` gave p and k halfwords, and are staged, two bytes of the text for each value
+pub record Walking (t : List ℕ) (b : Buffers) (s : Sizes) (p : Place) (at line k : ℕ) (staged : List ℕ) : Type 0 where
+  pub sized : Sized (replayed staged (p .count) k b) s
   pub first : Sized b s
-  pub rest : all t b ≡ linesRead (linesOf (drop at t)) (progressOf p held) line
-  pub present : now ≡ cond writes held b
+  pub rest : textRead t b ≡ linesRead (linesOf (drop at t)) (reached p k staged b) line
   pub reach : at ≤ length t
   pub lines : line ≤ at + 1
-  pub orders : p .count ≤ at
+  pub half : placeAfter (p .count) k * 2 ≤ at
+  pub size : length staged ≡ 16384
+  pub early : Early (wantedOf (p .wanted)) k
+  pub landing : Landing staged (p .count) k (s .memory) (s .protect)
 
-either-way : (writes : Bool) (b : Buffers) → b ≡ cond writes b b
-either-way true b = refl
-either-way false b = refl
-
-pub start : {t : List ℕ} {b : Buffers} {s : Sizes} {writes : Bool} {p : Place} → Sized b s → progressOf p b ≡ begun b → Walking t b s writes p 0 1 b
-start {t} {b} {s} {writes} {p} z e = record {
-  held = b;
-  sized = z;
-  first = z;
-  rest = ap (λ (q : Progress). linesRead (linesOf t) q 1) (sym e);
-  present = either-way writes b;
-  reach = zero-le;
-  lines = omega arith;
-  orders = let n : p .count ≡ 0 = ap (λ (q : Progress). q .count) e in omega arith;
-}
+pub start : {t : List ℕ} {b : Buffers} {s : Sizes} {p : Place} {staged : List ℕ} → Sized b s → progressOf p b ≡ begun b → length staged ≡ 16384 → Walking t b s p 0 1 0 staged
+start {t} {b} {s} {p} {staged} z e size =
+    let n : p .count ≡ 0 = ap (λ (q : Progress). q .count) e in
+    let w : heading ≡ wantedOf (p .wanted) = ap (λ (q : Progress). q .wanted) (sym e) in
+    let none : replayed staged (p .count) 0 b ≡ b = rw n (replayed-none staged b) in
+    record {
+      sized = rw none z;
+      first = z;
+      rest = ap (λ (q : Progress). linesRead (linesOf t) q 1) (sym e) ∙ rw none;
+      reach = zero-le;
+      lines = omega arith;
+      half = omega arith;
+      size = size;
+      early = subst (λ (x : Wanted). Early x 0) w refl;
+      landing = rw n (landing-none staged (s .memory) (s .protect));
+    }
 
 -- ---- a line
 
@@ -57,71 +72,116 @@ sized-with (ordered o) n b s z = record { cells = simp length-set (z .cells); me
 sized-with parted n b s z = z
 sized-with (stored h) n b s z = record { cells = z .cells; memory = simp length-set (z .memory); protect = simp length-set (z .protect) }
 
-present-with : (writes : Bool) (g : Given) (n : ℕ) (held b now after : Buffers) → now ≡ cond writes held b
-    → after ≡ cond writes (bufferedWith g n now) now → after ≡ cond writes (bufferedWith g n held) b
-present-with true g n held b now after e h = h ∙ ap (λ (x : Buffers). bufferedWith g n x) e
-present-with false g n held b now after e h = h ∙ e
+count-with : (g : Given) (p : Progress) → progressed g p .count ≡ ordersWith g (p .count)
+unfolding progressed
+count-with headed p = refl
+count-with (ordered o) p = refl
+count-with parted p = refl
+count-with (stored h) p = refl
 
-count-with : (g : Given) (p : Progress) → advanced g p .count ≤ p .count + 1
-unfolding advanced
-count-with headed p = omega arith
-count-with (ordered o) p = omega arith
-count-with parted p = omega arith
-count-with (stored h) p = omega arith
+follows : (w : Wanted) (p : Progress) (g : Given) (k : ℕ) → Sound w p g → Early w k → Follows g k
+follows w p headed k s e = tt
+follows heading p (ordered o) k s e = absurd s
+follows order p (ordered o) k s e = e
+follows storage p (ordered o) k s e = absurd s
+follows halfword p (ordered o) k s e = absurd s
+follows w p parted k s e = tt
+follows w p (stored h) k s e = tt
 
-module _ {t : List ℕ} {b : Buffers} {s : Sizes} {writes : Bool} {p : Place} {at line : ℕ} {now : Buffers} (r : Walking t b s writes p at line now) where
-  -- the buffers keep their lengths
-  pub sizes-by : (w : Bool) → now ≡ cond w (r .held) b → Sized now s
-  sizes-by true e = rw e (r .sized)
-  sizes-by false e = rw e (r .first)
+early-with : (w : Wanted) (p : Progress) (g : Given) (k : ℕ) → p .wanted ≡ w → Sound w p g → Early w k → Early (progressed g p .wanted) (halfwordsWith g k)
+unfolding progressed
+early-with heading p headed k q s e = rw q e
+early-with heading p (ordered o) k q s e = absurd s
+early-with heading p parted k q s e = absurd s
+early-with heading p (stored h) k q s e = absurd s
+early-with order p headed k q s e = absurd s
+early-with order p (ordered o) k q s e = e
+early-with order p parted k q s e = e
+early-with order p (stored h) k q s e = absurd s
+early-with storage p headed k q s e = rw q tt
+early-with storage p (ordered o) k q s e = absurd s
+early-with storage p parted k q s e = absurd s
+early-with storage p (stored h) k q s e = absurd s
+early-with halfword p headed k q s e = absurd s
+early-with halfword p (ordered o) k q s e = absurd s
+early-with halfword p parted k q s e = absurd s
+early-with halfword p (stored h) k q s e = tt
 
-  pub sizes : Sized now s
-  sizes = sizes-by writes (r .present)
-
-  pub storable : (line : List ℕ) (g : Given) → lineRead (progressOf p (r .held)) line ≡ gives g → Storable g (p .count) (length (now .cells)) (length (now .memory)) (length (now .protect))
-  unfolding lineRead
-  storable line g h =
-      rw (sizes .cells, sizes .memory, sizes .protect, ← r .sized .cells, ← r .sized .memory, ← r .sized .protect)
-      (fits (wantedOf (p .wanted)) (progressOf p (r .held)) line g h)
-
+module _ {t : List ℕ} {b : Buffers} {s : Sizes} {p : Place} {at line k : ℕ} {staged : List ℕ} (r : Walking t b s p at line k staged) where
   module _ {e : ℕ} (m : Stretch t at (length t) 10 e) where
-    pub on : (l : e < length t) (g : Given) → lineRead (progressOf p (r .held)) (part at e t) ≡ gives g
-        → (next : Place) → ((x : Buffers) → progressOf next (bufferedWith g (p .count) x) ≡ advanced g (progressOf p x))
-        → (to : ℕ) → to ≡ e + 1
-        → (after : Buffers) → after ≡ cond writes (bufferedWith g (p .count) now) now
-        → Walking t b s writes next to (line + 1) after
-    unfolding linesRead
-    on l g f next moved to past after put = record {
-      held = bufferedWith g (p .count) (r .held);
-      sized = sized-with g (p .count) (r .held) s (r .sized);
-      first = r .first;
-      rest = r .rest ∙ rw (line-ended m l, f, moved (r .held), past);
-      present = present-with writes g (p .count) (r .held) b now after (r .present) put;
-      reach = omega arith;
-      lines = omega (arith, r .lines, m .low);
-      orders =
-          let q : next .count ≡ advanced g (progressOf p (r .held)) .count = ap (λ (x : Progress). x .count) (moved (r .held)) in
-          omega (arith, q, count-with g (progressOf p (r .held)), r .orders, m .low);
-    }
+    module _ (l : e < length t) (g : Given) (f : lineRead (reached p k staged b) (part at e t) ≡ gives g) where
+      given-sound : Sound (wantedOf (p .wanted)) (reached p k staged b) g
+      unfolding lineRead
+      given-sound = sound (wantedOf (p .wanted)) (reached p k staged b) (part at e t) g f
 
-    pub stopped : e < length t → (n : ℕ) → lineRead (progressOf p (r .held)) (part at e t) ≡ stops n → all t b ≡ faulty n line
+      -- two bytes of the text, with those of this line, for each value
+      halves : (placeAfter (p .count) k + valuesIn g) * 2 ≤ e + 1
+      unfolding lineRead
+      halves =
+          let wide = line-bytes (wantedOf (p .wanted)) (reached p k staged b) (part at e t) g f in
+          omega (arith, wide, length-part at e t (m .low) (m .high), r .half, m .low)
+
+      -- the values of the line fit into the staging array
+      pub stageable : length t ≤ 32768 → placeAfter (p .count) k + valuesIn g ≤ 16384
+      stageable limit = omega (arith, halves)
+
+      fits-sizes : Storable g (p .count) (s .cells) (s .memory) (s .protect)
+      fits-sizes =
+          rw (← r .sized .cells, ← r .sized .memory, ← r .sized .protect)
+          (sound-fits (wantedOf (p .wanted)) (reached p k staged b) g given-sound)
+
+      pub on : length t ≤ 32768 → (next : Place) → ((x : Buffers) → progressOf next (bufferedWith g (p .count) x) ≡ progressed g (progressOf p x))
+          → (to : ℕ) → to ≡ e + 1 → (more : ℕ) → more ≡ halfwordsWith g k → (after : List ℕ) → after ≡ stagedWith g (p .count) k staged
+          → Walking t b s next to (line + 1) more after
+      unfolding linesRead
+      on limit next moved to past more halfwords after put =
+          let held = replayed staged (p .count) k b in
+          let wide = stageable limit in
+          let behind = follows (wantedOf (p .wanted)) (reached p k staged b) g k given-sound (r .early) in
+          let n : next .count ≡ ordersWith g (p .count) = ap (λ (x : Progress). x .count) (moved held) ∙ count-with g (progressOf p held) in
+          let w : wantedOf (next .wanted) ≡ progressed g (progressOf p held) .wanted = ap (λ (x : Progress). x .wanted) (moved held) in
+          let now : replayed after (next .count) more b ≡ bufferedWith g (p .count) held =
+          rw (put, n, halfwords) (replayed-with g (p .count) k staged b behind (rw (r .size) wide)) in
+          record {
+            sized = rw now (sized-with g (p .count) held s (r .sized));
+            first = r .first;
+            rest = r .rest ∙ rw (line-ended m l, f, past, now, moved held);
+            reach = omega arith;
+            lines = omega (arith, r .lines, m .low);
+            half = rw (n, halfwords, place-with g (p .count) k) (omega (arith, halves, past));
+            size = rw put (size-with g (p .count) k staged ∙ r .size);
+            early = rw (w, halfwords) (early-with (wantedOf (p .wanted)) (progressOf p held) g k refl given-sound (r .early));
+            landing = rw (put, n, halfwords) (landing-with g (p .count) k staged (s .cells) (s .memory) (s .protect) (r .size) behind wide fits-sizes (r .landing));
+          }
+
+    pub stopped : e < length t → (n : ℕ) → lineRead (reached p k staged b) (part at e t) ≡ stops n → textRead t b ≡ faulty n line
     unfolding linesRead
     stopped l n f = r .rest ∙ rw (line-ended m l, f)
 
-    pub unfinished : at < length t → e ≡ length t → all t b ≡ faulty 16 line
+    pub unfinished : at < length t → e ≡ length t → textRead t b ≡ faulty 16 line
     unfolding linesRead
     unfinished l q = r .rest ∙ rw (line-unended m l q)
 
 -- ---- where the walk is left
 
-pub record Left (t : List ℕ) (b : Buffers) (writes : Bool) (p : Place) (fault : Fault) (line : ℕ) (now : Buffers) : Type 0 where
-  pub said : concluded fault line p ≡ saidOf (all t b)
-  pub kept : writes ≡ false → now ≡ b
-  pub written : writes ≡ true → (q : Progress) → all t b ≡ whole q → now ≡ q .held
+pub record Left (t : List ℕ) (b : Buffers) (p : Place) (fault : Fault) (line k : ℕ) (staged : List ℕ) : Type 0 where
+  pub said : concluded fault line p ≡ saidOf (textRead t b)
+  pub end : (q : Progress) → textRead t b ≡ whole q → q ≡ reached p k staged b
+  pub orders : p .count * 4 ≤ 16384
+  pub landing : Landing staged (p .count) k (length (b .memory)) (length (b .protect))
 
 -- a whole text is no faulty one
 pub other : {n k : ℕ} {q : Progress} {C : Type 0} → faulty n k ≡ whole q → C
 other h = let z : _≡_ {A = ℕ} 0 1 = cc in absurd (omega arith)
+
+whole-inj : {p q : Progress} → whole p ≡ whole q → p ≡ q
+whole-inj h = cc
+
+pub end-whole : (w : Wanted) (p q : Progress) (k : ℕ) → endRead w p k ≡ whole q → p ≡ q
+end-whole heading p q k h = other h
+end-whole order p q k h = whole-inj h
+end-whole storage p q k h = other h
+end-whole halfword p q k h = whole-inj h
 
 end-said : (w : Wanted) (q : Progress) (line : ℕ) → endSaid w (q .count) line ≡ saidOf (endRead w q line)
 end-said heading q line = refl
@@ -129,48 +189,42 @@ end-said order q line = refl
 end-said storage q line = refl
 end-said halfword q line = refl
 
-end-held : (w : Wanted) (q p : Progress) (line : ℕ) → endRead w q line ≡ whole p → q .held ≡ p .held
-end-held heading q p line h = other h
-end-held order q p line h = cc
-end-held storage q p line h = other h
-end-held halfword q p line h = cc
+fault-said : (fault : Fault) (line : ℕ) (p : Place) → (fault ≡ Fault.Nothing → ⊥) → concluded fault line p ≡ refused (faultNumber fault) line
+fault-said Fault.Nothing line p z = absurd (z refl)
+fault-said Fault.Malformed line p z = refl
+fault-said Fault.NoRoom line p z = refl
 
-module _ {t : List ℕ} {b : Buffers} {s : Sizes} {writes : Bool} {p : Place} {at line : ℕ} {now : Buffers} (r : Walking t b s writes p at line now) where
-  kept-by : (w : Bool) → now ≡ cond w (r .held) b → w ≡ false → now ≡ b
-  kept-by true e h = let z : _≡_ {A = ℕ} 0 1 = cc in absurd (omega arith)
-  kept-by false e h = e
+module _ {t : List ℕ} {b : Buffers} {s : Sizes} {p : Place} {at line k : ℕ} {staged : List ℕ} (r : Walking t b s p at line k staged) (limit : length t ≤ 32768) where
+  left : (fault : Fault) → concluded fault line p ≡ saidOf (textRead t b) → ((q : Progress) → textRead t b ≡ whole q → q ≡ reached p k staged b) → Left t b p fault line k staged
+  left fault said end = record {
+    said = said;
+    end = end;
+    orders = omega (arith, r .half, r .reach);
+    landing = rw (r .first .memory, r .first .protect) (r .landing);
+  }
 
-  held-by : (w : Bool) → now ≡ cond w (r .held) b → w ≡ true → now ≡ r .held
-  held-by true e h = e
-  held-by false e h = let z : _≡_ {A = ℕ} 0 1 = cc in absurd (omega arith)
-
-  end-read : length t ≤ at → all t b ≡ endRead (wantedOf (p .wanted)) (progressOf p (r .held)) line
+  end-read : length t ≤ at → textRead t b ≡ endRead (wantedOf (p .wanted)) (reached p k staged b) line
   unfolding linesRead
   end-read l = r .rest ∙ rw (no-line t at l)
 
   -- at the end of the text
-  pub at-end : length t ≤ at → (fault : Fault) → fault ≡ Fault.Nothing → Left t b writes p fault line now
-  at-end l fault z = record {
-    said = rw (z, end-read l) (end-said (wantedOf (p .wanted)) (progressOf p (r .held)) line);
-    kept = kept-by writes (r .present);
-    written = λ w q h. held-by writes (r .present) w ∙ end-held (wantedOf (p .wanted)) (progressOf p (r .held)) q line (sym (end-read l) ∙ h);
-  }
-
-  fault-said : (fault : Fault) → (fault ≡ Fault.Nothing → ⊥) → concluded fault line p ≡ refused (faultNumber fault) line
-  fault-said Fault.Nothing z = absurd (z refl)
-  fault-said Fault.Malformed z = refl
-  fault-said Fault.NoRoom z = refl
+  pub at-end : length t ≤ at → (fault : Fault) → fault ≡ Fault.Nothing → Left t b p fault line k staged
+  at-end l fault z =
+      left fault (rw (z, end-read l) (end-said (wantedOf (p .wanted)) (reached p k staged b) line))
+      (λ q h. sym (end-whole (wantedOf (p .wanted)) (reached p k staged b) q line (sym (end-read l) ∙ h)))
 
   -- at a fault
-  pub at-fault : (fault : Fault) → (fault ≡ Fault.Nothing → ⊥) → all t b ≡ faulty (faultNumber fault) line → Left t b writes p fault line now
-  at-fault fault z f = record {
-    said = fault-said fault z ∙ rw f;
-    kept = kept-by writes (r .present);
-    written = λ w q h. other (sym f ∙ h);
-  }
+  pub at-fault : (fault : Fault) → (fault ≡ Fault.Nothing → ⊥) → textRead t b ≡ faulty (faultNumber fault) line → Left t b p fault line k staged
+  at-fault fault z f = left fault (fault-said fault line p z ∙ rw f) (λ q h. other (sym f ∙ h))
 
-  pub at-malformed : {fault : Fault} → fault ≡ Fault.Malformed → all t b ≡ faulty (faultNumber Fault.Malformed) line → Left t b writes p fault line now
+  pub at-malformed : {fault : Fault} → fault ≡ Fault.Malformed → textRead t b ≡ faulty (faultNumber Fault.Malformed) line → Left t b p fault line k staged
   at-malformed e f = rw e (at-fault Fault.Malformed (λ z. let no : _≡_ {A = ℕ} 0 1 = cc in omega arith) f)
 
-pub walked : {t : List ℕ} {b now : Buffers} {writes : Bool} {p : Place} {fault : Fault} {line : ℕ} {r : Reading} → Left t b writes p fault line now → saysReading r ≡ concluded fault line p → Walked t writes b now r
-walked l e = record { said = e ∙ l .said; kept = l .kept; written = l .written }
+pub walked : {t : List ℕ} {b : Buffers} {p : Place} {fault : Fault} {line k : ℕ} {staged : List ℕ} (r : Found) → Left t b p fault line k staged
+    → saysReading (r .reading) ≡ concluded fault line p → r .halfwords ≡ k → Walked t b staged r
+walked {t} {b} {p} {k = k} {staged} r l e h = record {
+  said = e ∙ l .said;
+  held = λ q w. rw (l .end q w, h);
+  orders = λ q w. rw (l .end q w) (l .orders);
+  landing = λ q w. rw (l .end q w, h) (l .landing);
+}

@@ -8,7 +8,7 @@ use Rattle.machine.specs.declared.order.Operation.{Operation}
 use Rattle.machine.specs.Order.{legalOf}
 use Rattle.machine.specs.Says.{provided, andThen}
 use Rattle.decktext.specs.Text.{valuesOf}
-use Rattle.decktext.specs.Value.{codeOf, decimalOf, protectOf, wordOf}
+use Rattle.decktext.specs.Value.{mnemonicCode, decimalOf, protectOf, wordOf}
 
 -- `op r1 r2 at`
 abbrev pub deckHeading : List ℕ
@@ -33,7 +33,7 @@ orderFrom (m ∷ []) = stops 16
 orderFrom (m ∷ a ∷ []) = stops 16
 orderFrom (m ∷ a ∷ b ∷ []) = stops 16
 orderFrom (m ∷ a ∷ b ∷ c ∷ []) =
-    andThen (codeOf m) (λ op. andThen (decimalOf a) (λ r1. andThen (decimalOf b) (λ r2. andThen (decimalOf c) (λ at.
+    andThen (mnemonicCode m) (λ op. andThen (decimalOf a) (λ r1. andThen (decimalOf b) (λ r2. andThen (decimalOf c) (λ at.
     legal (record { code = op; r1 = r1; r2 = r2; at = at })))))
 orderFrom (m ∷ a ∷ b ∷ c ∷ d ∷ vs) = stops 16
 

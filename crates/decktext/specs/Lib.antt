@@ -5,4 +5,5 @@ pub mod Format
 pub mod Read
 pub mod Key
 pub mod Walk
+pub mod Staged
 pub mod Theorems

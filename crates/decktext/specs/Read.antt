@@ -113,11 +113,11 @@ bufferedWith parted n b = b
 bufferedWith (stored h) n b = buffers (b .cells) (set (b .memory) (h .at) (h .word)) (set (b .protect) (h .at) (h .protect))
 
 -- the progress with what a line gives
-unfoldable pub advanced : Given → Progress → Progress
-advanced headed p = record { wanted = afterHeading (p .wanted); count = p .count; least = p .least; held = p .held }
-advanced (ordered o) p = record { wanted = order; count = p .count + 1; least = p .least; held = bufferedWith (ordered o) (p .count) (p .held) }
-advanced parted p = record { wanted = storage; count = p .count; least = p .least; held = p .held }
-advanced (stored h) p = record { wanted = halfword; count = p .count; least = h .at + 1; held = bufferedWith (stored h) (p .count) (p .held) }
+unfoldable pub progressed : Given → Progress → Progress
+progressed headed p = record { wanted = afterHeading (p .wanted); count = p .count; least = p .least; held = p .held }
+progressed (ordered o) p = record { wanted = order; count = p .count + 1; least = p .least; held = bufferedWith (ordered o) (p .count) (p .held) }
+progressed parted p = record { wanted = storage; count = p .count; least = p .least; held = p .held }
+progressed (stored h) p = record { wanted = halfword; count = p .count; least = h .at + 1; held = bufferedWith (stored h) (p .count) (p .held) }
 
 -- what all lines gave, or the number and the line of the first fault
 pub data Read : Type 0 where
@@ -134,7 +134,7 @@ endRead halfword p k = whole p
 -- line k and those after it
 abbrev pub readOn : Answer Given → Progress → ℕ → (Progress → Read) → Read
 readOn (stops n) p k rest = faulty n k
-readOn (gives g) p k rest = rest (advanced g p)
+readOn (gives g) p k rest = rest (progressed g p)
 
 unfoldable pub linesRead : List Line → Progress → ℕ → Read
 linesRead [] p k = endRead (p .wanted) p k
@@ -142,10 +142,10 @@ linesRead (unended l ∷ ls) p k = faulty 16 k
 linesRead (ended l ∷ ls) p k = readOn (lineRead p l) p k (λ q. linesRead ls q (k + 1))
 
 -- a refused text leaves all buffers
-abbrev pub settled : Buffers → Read → Outcome
-settled b (whole p) = outcome (p .held) (taken (p .count))
-settled b (faulty n k) = outcome b (refused n k)
+abbrev pub concludedWith : Buffers → Read → Outcome
+concludedWith b (whole p) = outcome (p .held) (taken (p .count))
+concludedWith b (faulty n k) = outcome b (refused n k)
 
 -- text above its byte limit is refused first
 unfoldable pub readText : List ℕ → Buffers → Outcome
-readText t b = cond (ltb 32768 (length t)) (outcome b (refused 17 0)) (settled b (linesRead (linesOf t) (start b) 1))
+readText t b = cond (ltb 32768 (length t)) (outcome b (refused 17 0)) (concludedWith b (linesRead (linesOf t) (start b) 1))

@@ -8,13 +8,13 @@ use Rattle.machine.specs.declared.order.Order.{Order}
 use Rattle.machine.specs.Order.{orderAt}
 use Rattle.decktext.specs.Text.{Line, ended, unended, linesOf}
 use Rattle.decktext.specs.Format.{Halfword}
-use Rattle.decktext.specs.Read.{Buffers, Said, refused, taken, Wanted, heading, order, storage, halfword, Progress, start, Given, ordered, stored, lineRead, advanced, readText}
+use Rattle.decktext.specs.Read.{Buffers, Said, refused, taken, Wanted, heading, order, storage, halfword, Progress, start, Given, ordered, stored, lineRead, progressed, readText}
 
 -- each of these lines is ended, well formed and fits, and they take p to q
 abbrev pub Through : List Line → Progress → Progress → Type 0
 Through [] p q = p ≡ q
 Through (unended l ∷ ls) p q = ⊥
-Through (ended l ∷ ls) p q = (g : Given) × (lineRead p l ≡ gives g) × Through ls (advanced g p) q
+Through (ended l ∷ ls) p q = (g : Given) × (lineRead p l ≡ gives g) × Through ls (progressed g p) q
 
 -- the first line of the rest of a text is faulty, with the number n: it is missing, unended, or doesn't read
 abbrev pub Missing : Wanted → Type 0

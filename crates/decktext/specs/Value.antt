@@ -90,5 +90,5 @@ unfoldable pub codeAmong : List (List ℕ) → ℕ → List ℕ → Answer ℕ
 codeAmong [] n v = stops 16
 codeAmong (m ∷ ms) n v = cond (same v m) (gives n) (codeAmong ms (n + 1) v)
 
-unfoldable pub codeOf : List ℕ → Answer ℕ
-codeOf v = codeAmong mnemonics 1 v
+unfoldable pub mnemonicCode : List ℕ → Answer ℕ
+mnemonicCode v = codeAmong mnemonics 1 v

@@ -8,7 +8,7 @@ use lib.Dec.{eqb, leb, ltb}
 use Rattle.hexfloat.specs.Answer.{Answer, gives, stops}
 use Rattle.machine.specs.declared.order.Order.{Order}
 use Rattle.machine.specs.Says.{provided, andThen}
-use Rattle.decktext.specs.declared.deck.Reading.{Reading}
+use Rattle.decktext.specs.declared.deck.Found.{Found}
 use Rattle.decktext.specs.declared.fault.Fault.{Fault}
 use Rattle.decktext.specs.declared.given.Given.{Given as GivenLine}
 use Rattle.decktext.specs.declared.given.Halfword.{Halfword as GivenHalfword}
@@ -20,9 +20,10 @@ use Rattle.decktext.specs.declared.reader.LineSpan.{LineSpan}
 use Rattle.decktext.specs.declared.reader.LineReader.{LineReader}
 use Rattle.decktext.specs.Fault.{faultNumber}
 use Rattle.decktext.specs.Text.{same, linesOf}
-use Rattle.decktext.specs.Value.{all, markedDigit, numberFrom, codeOf, decimalOf, protectOf, wordOf}
+use Rattle.decktext.specs.Value.{all, markedDigit, numberFrom, mnemonicCode, decimalOf, protectOf, wordOf}
 use Rattle.decktext.specs.Format.{deckHeading, storageHeading, legal, Halfword}
 use Rattle.decktext.specs.Read.{Buffers, Said, taken, refused, saysReading, Wanted, heading, order, storage, halfword, Progress, start, Given, headed, ordered, parted, stored, orderFits, halfwordFits, Read, whole, faulty, linesRead}
+use Rattle.decktext.specs.Staged.{replayed, Landing}
 
 -- r is the first place from `from` on, and before `end`, that holds the byte b, or `end`
 pub record Stretch (t : List ℕ) (from end b r : ℕ) : Type 0 where
@@ -106,7 +107,7 @@ inPlace i false last a = cond (eqb i last) (stops 16) a
 
 unfoldable pub valueAs : Wanted → ℕ → Bool → List ℕ → Answer ℕ
 valueAs heading i ends v = stops 16
-valueAs order i ends v = inPlace i ends 3 (cond (eqb i 0) (codeOf v) (decimalOf v))
+valueAs order i ends v = inPlace i ends 3 (cond (eqb i 0) (mnemonicCode v) (decimalOf v))
 valueAs storage i ends v = stops 16
 valueAs halfword i ends v = inPlace i ends 2 (cond (eqb i 0) (decimalOf v) (cond (eqb i 1) (protectOf v) (wordOf v)))
 
@@ -117,11 +118,11 @@ abbrev pub halfwordFromValues : List ℕ → Halfword
 halfwordFromValues v = record { at = getD v 0 0; protect = getD v 1 0; word = getD v 2 0 }
 
 -- a line whose values are known
-unfoldable pub judgedAs : Wanted → Progress → List ℕ → List ℕ → Answer Given
-judgedAs heading p line v = provided (same line deckHeading) 16 (gives headed)
-judgedAs order p line v = cond (same line []) (gives parted) (andThen (legal (orderFromValues v)) (orderFits p))
-judgedAs storage p line v = provided (same line storageHeading) 16 (gives headed)
-judgedAs halfword p line v = halfwordFits p (halfwordFromValues v)
+unfoldable pub judgedLine : Wanted → Progress → List ℕ → List ℕ → Answer Given
+judgedLine heading p line v = provided (same line deckHeading) 16 (gives headed)
+judgedLine order p line v = cond (same line []) (gives parted) (andThen (legal (orderFromValues v)) (orderFits p))
+judgedLine storage p line v = provided (same line storageHeading) 16 (gives headed)
+judgedLine halfword p line v = halfwordFits p (halfwordFromValues v)
 
 -- the answer where the walk ends: a fault, or what the end of the text says
 abbrev pub endSaid : Wanted → ℕ → ℕ → Said
@@ -139,8 +140,9 @@ abbrev pub saidOf : Read → Said
 saidOf (whole p) = taken (p .count)
 saidOf (faulty n k) = refused n k
 
--- a walk over the text: its answer, and what it leaves in the buffers
-pub record Walked (t : List ℕ) (writes : Bool) (b after : Buffers) (r : Reading) : Type 0 where
-  pub said : saysReading r ≡ saidOf (linesRead (linesOf t) (start b) 1)
-  pub kept : writes ≡ false → after ≡ b
-  pub written : writes ≡ true → (p : Progress) → linesRead (linesOf t) (start b) 1 ≡ whole p → after ≡ p .held
+-- a walk over the text: its answer, and what it has staged of a text without fault
+pub record Walked (t : List ℕ) (b : Buffers) (staged : List ℕ) (r : Found) : Type 0 where
+  pub said : saysReading (r .reading) ≡ saidOf (linesRead (linesOf t) (start b) 1)
+  pub held : (p : Progress) → linesRead (linesOf t) (start b) 1 ≡ whole p → p .held ≡ replayed staged (p .count) (r .halfwords) b
+  pub orders : (p : Progress) → linesRead (linesOf t) (start b) 1 ≡ whole p → p .count * 4 ≤ 16384
+  pub landing : (p : Progress) → linesRead (linesOf t) (start b) 1 ≡ whole p → Landing staged (p .count) (r .halfwords) (length (b .memory)) (length (b .protect))

@@ -1,6 +1,8 @@
-// Reading a deck text: the walk over lines and values, first to find a fault, then to write.
+// Reading a deck text: the walk over lines and values stages what they give; a good text is written.
 use crate::fault::Fault;
-use crate::given::store;
+use crate::given::put_halfwords;
+use crate::given::put_orders;
+use crate::given::stage;
 use crate::line::Judged;
 use crate::line::Progress;
 use crate::line::Wanted;
@@ -54,29 +56,40 @@ pub fn read(text: &[u8], cells: &mut [u16], memory: &mut [u16], protect: &mut [u
     if 32768 < text.len() {
         return Reading::NoRoom(0);
     }
-    let found = walk(text, cells, memory, protect, false);
-    let Reading::Taken(_) = found else {
-        return found;
+    let mut staged = [0u16; 16384];
+    let walked = walk(text, cells, memory, protect, &mut staged);
+    let reading = walked.reading;
+    let Reading::Taken(n) = reading else {
+        return reading;
     };
-    walk(text, cells, memory, protect, true)
+    put_orders(&staged, n as usize * 4, cells);
+    put_halfwords(&staged, n, walked.halfwords, memory, protect);
+    reading
 }
 
-// The walk is left at the first fault, with its line. Only where `writes` is set are the buffers
-// written.
+// What a walk answers, and how many halfwords it staged.
+pub struct Found {
+    pub reading: Reading,
+    pub halfwords: usize,
+}
+
+// The walk is left at the first fault, with its line. What the lines give is staged. An order line has
+// at least 8 bytes and gives four values, a memory line at least 9 and gives three, so there is room.
 fn walk(
     text: &[u8],
-    cells: &mut [u16],
-    memory: &mut [u16],
-    protect: &mut [u8],
-    writes: bool,
-) -> Reading
-    requires { ⌜ length (now text) ≤ 32768 ⌝ }
-    ensures { λ r. ⌜ Walked (now (text .entry)) writes (buffers (now (cells .entry)) (now (memory .entry)) (now (protect .entry))) (buffers (now (cells .exit)) (now (memory .exit)) (now (protect .exit))) r ⌝ }
+    cells: &[u16],
+    memory: &[u16],
+    protect: &[u8],
+    staged: &mut [u16; 16384],
+) -> Found
+    requires { ⌜ (length (now text) ≤ 32768) × (length (now staged) ≡ 16384) ⌝ }
+    ensures { λ r. ⌜ Walked (now (text .entry)) (buffers (now (cells .entry)) (now (memory .entry)) (now (protect .entry))) (now (staged .exit)) r ⌝ }
 {
     let sizes = sizes_of(cells.len(), memory.len(), protect.len());
     let mut p = start();
     let mut at = 0;
     let mut line: u32 = 1;
+    let mut k = 0;
     let mut fault = Fault::Nothing;
     'lines: while at < text.len() {
         let found = next_line(text, at);
@@ -105,12 +118,15 @@ fn walk(
             fault = fault_of(judged);
             break 'lines;
         };
-        store(writes, g, p.count, cells, memory, protect);
+        k = stage(g, p.count, k, staged);
         p = advance(p, g);
         at = found.next;
         line += 1;
     }
-    conclude(fault, line, p)
+    Found {
+        reading: conclude(fault, line, p),
+        halfwords: k,
+    }
 }
 
 fn fault_of(j: Judged) -> Fault

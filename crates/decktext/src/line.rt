@@ -1,7 +1,7 @@
 // One line: how many values it has, what each must be, and what the line gives.
 use crate::given::Given;
 use crate::given::Halfword;
-use crate::mnemonic::code;
+use crate::mnemonic::mnemonic_code;
 use crate::span::is_same;
 use crate::value::Value;
 use crate::value::decimal;
@@ -16,10 +16,10 @@ ghost use Rattle.hexfloat.specs.Answer.{gives};
 ghost use Rattle.machine.specs.Says.{provided, andThen};
 ghost use Rattle.decktext.specs.Text.{same};
 ghost use lib.Dec.{eqb};
-ghost use Rattle.decktext.specs.Value.{saysValue, codeOf, decimalOf, protectOf, wordOf};
+ghost use Rattle.decktext.specs.Value.{saysValue, mnemonicCode, decimalOf, protectOf, wordOf};
 ghost use Rattle.decktext.specs.Format.{legal};
-ghost use Rattle.decktext.specs.Read.{Buffers, start as begun, headed, orderFits, halfwordFits, afterHeading, bufferedWith, advanced};
-ghost use Rattle.decktext.specs.Walk.{wantedOf, halfwordAs, givenOf, saysJudged, progressOf, Sized, valueCount, valueAs, inPlace, judgedAs};
+ghost use Rattle.decktext.specs.Read.{Buffers, start as begun, headed, orderFits, halfwordFits, afterHeading, bufferedWith, progressed};
+ghost use Rattle.decktext.specs.Walk.{wantedOf, halfwordAs, givenOf, saysJudged, progressOf, Sized, valueCount, valueAs, inPlace, judgedLine};
 
 pub enum Wanted {
     Heading,
@@ -93,9 +93,9 @@ pub fn value(w: Wanted, i: usize, ends: bool, v: &[u8]) -> Value
 }
 
 fn order_value(i: usize, v: &[u8]) -> Value
-    ensures { λ r. ⌜ saysValue r ≡ cond (eqb i 0) (codeOf (now (v .entry))) (decimalOf (now (v .entry))) ⌝ }
+    ensures { λ r. ⌜ saysValue r ≡ cond (eqb i 0) (mnemonicCode (now (v .entry))) (decimalOf (now (v .entry))) ⌝ }
 {
-    if i == 0 { code(v) } else { decimal(v) }
+    if i == 0 { mnemonic_code(v) } else { decimal(v) }
 }
 
 fn halfword_value(i: usize, v: &[u8]) -> Value
@@ -121,7 +121,7 @@ fn in_place(i: usize, ends: bool, last: usize, v: Value) -> Value
 // What a line gives whose values are v.
 pub fn judge(p: Progress, line: &[u8], v: [u16; 4], s: Sizes) -> Judged
     requires { ⌜ p .count < 65536 ⌝ }
-    ensures { λ r. ⌜ ((b : Buffers) → Sized b s → saysJudged r ≡ judgedAs (wantedOf (p .wanted)) (progressOf p b) (now (line .entry)) v) ⌝ }
+    ensures { λ r. ⌜ ((b : Buffers) → Sized b s → saysJudged r ≡ judgedLine (wantedOf (p .wanted)) (progressOf p b) (now (line .entry)) v) ⌝ }
 {
     let w = p.wanted;
     match w {
@@ -197,7 +197,7 @@ fn judge_halfword(p: Progress, h: Halfword, s: Sizes) -> Judged
 
 pub fn advance(p: Progress, g: Given) -> Progress
     requires { ⌜ p .count < 65536 ⌝ }
-    ensures { λ r. ⌜ ((b : Buffers) → progressOf r (bufferedWith (givenOf g) (p .count) b) ≡ advanced (givenOf g) (progressOf p b)) ⌝ }
+    ensures { λ r. ⌜ ((b : Buffers) → progressOf r (bufferedWith (givenOf g) (p .count) b) ≡ progressed (givenOf g) (progressOf p b)) ⌝ }
 {
     match g {
         Given::Headed => {

@@ -1,14 +1,14 @@
 // Mnemonics.
 use crate::value::Value;
 ghost use mathlib.Core.Path.{_≡_};
-ghost use Rattle.decktext.specs.Value.{saysValue, codeOf};
-ghost use Rattle.decktext.specs.Key.{keyOf, codeByKey};
+ghost use Rattle.decktext.specs.Value.{saysValue, mnemonicCode};
+ghost use Rattle.decktext.specs.Key.{nameKey, codeByKey, entryOf};
 ghost use lib.ListN.{length};
-ghost use Prim.Native.Nat.{_≤_};
+ghost use Prim.Native.Nat.{_≤_, _<_};
 
 // The code of a mnemonic.
-pub fn code(v: &[u8]) -> Value
-    ensures { λ r. ⌜ saysValue r ≡ codeOf (now (v .entry)) ⌝ }
+pub fn mnemonic_code(v: &[u8]) -> Value
+    ensures { λ r. ⌜ saysValue r ≡ mnemonicCode (now (v .entry)) ⌝ }
 {
     if 4 < v.len() {
         return Value::Malformed;
@@ -19,7 +19,7 @@ pub fn code(v: &[u8]) -> Value
 // The bytes of a name as one number, and its length.
 fn key(v: &[u8]) -> u64
     requires { ⌜ length (now v) ≤ 4 ⌝ }
-    ensures { λ r. ⌜ r ≡ keyOf (now (v .entry)) ⌝ }
+    ensures { λ r. ⌜ (r ≡ nameKey (now (v .entry))) × (r < 34359738368) ⌝ }
 {
     let mut n: u64 = 0;
     let mut i = 0;
@@ -30,32 +30,46 @@ fn key(v: &[u8]) -> u64
     n * 8 + v.len() as u64
 }
 
+// One multiplication finds the only slot where the key can stand.
 fn look_up(key: u64) -> Value
+    requires { ⌜ key < 34359738368 ⌝ }
     ensures { λ r. ⌜ saysValue r ≡ codeByKey key ⌝ }
 {
-    match key {
-        0x2622a93 => Value::Of(1), // LER
-        0x2622a => Value::Of(2), // LE
-        0x2622a23 => Value::Of(3), // LED
-        0x2622a1a94 => Value::Of(4), // LECR
-        0x21a2a93 => Value::Of(5), // CER
-        0x21a2a => Value::Of(6), // CE
-        0x21a2a2294 => Value::Of(7), // CEDR
-        0x21a2a23 => Value::Of(8), // CED
-        0x21ab232c4 => Value::Of(9), // CVFX
-        0x21ab23264 => Value::Of(10), // CVFL
-        0x2222a93 => Value::Of(11), // DER
-        0x2222a => Value::Of(12), // DE
-        0x2222a2294 => Value::Of(13), // DEDR
-        0x2222a23 => Value::Of(14), // DED
-        0x29aa22b => Value::Of(15), // STE
-        0x29aa22a24 => Value::Of(16), // STED
-        0x261 => Value::Of(17), // L
-        0x29aa2 => Value::Of(18), // ST
-        0x2aa6a => Value::Of(19), // UM
-        0x2521a => Value::Of(20), // JC
-        0x25272 => Value::Of(21), // JN
-        0x2420a62a4 => Value::Of(22), // HALT
-        _ => Value::Malformed,
+    let e = entry(key * 1725579 / 0x400_0000 % 64);
+    if e / 64 == key {
+        Value::Of((e % 64) as u16)
+    } else {
+        Value::Malformed
+    }
+}
+
+// The key and the code in a slot, or 0. Slot 0 is taken, so no name has the key of an empty slot.
+fn entry(slot: u64) -> u64
+    ensures { λ r. ⌜ r ≡ entryOf slot ⌝ }
+{
+    match slot {
+        0 => 0x868a88c8, // CED
+        3 => 0x868aa4c5, // CER
+        5 => 0x86ac8c990a, // CVFL
+        6 => 0x948694, // JC
+        7 => 0x86ac8cb109, // CVFX
+        8 => 0x949c95, // JN
+        11 => 0x888a8c, // DE
+        12 => 0xaa9a93, // UM
+        15 => 0x9851, // L
+        18 => 0x908298a916, // HALT
+        22 => 0x868a86, // CE
+        28 => 0xa6a88a8910, // STED
+        34 => 0x868a88a507, // CEDR
+        36 => 0xa6a892, // ST
+        39 => 0xa6a88acf, // STE
+        41 => 0x888a88ce, // DED
+        44 => 0x888aa4cb, // DER
+        48 => 0x988a82, // LE
+        50 => 0x988a88c3, // LED
+        52 => 0x988a86a504, // LECR
+        53 => 0x988aa4c1, // LER
+        56 => 0x888a88a50d, // DEDR
+        _ => 0,
     }
 }

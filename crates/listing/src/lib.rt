@@ -3,4 +3,5 @@ mod listing;
 mod text;
 
 pub use listing::answer;
+pub use listing::reading;
 pub use text::Listing;

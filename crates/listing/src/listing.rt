@@ -11,7 +11,8 @@ use machine::Registers;
 ghost use mathlib.Core.Path.{_≡_};
 ghost use Prim.Native.Nat.{_+_, _<_, _≤_};
 ghost use Rattle.machine.specs.Stops.{numberOf};
-ghost use Rattle.listing.specs.Listing.{field, refusal, registerLine, registerLines, listed, listingOf};
+ghost use Rattle.decktext.specs.Read.{saysReading, readText};
+ghost use Rattle.listing.specs.Listing.{blank, field, refusal, registerLine, registerLines, listed, listingOf};
 ghost use Rattle.listing.specs.Text.{Holds, Appended};
 
 // Reads the text, runs its orders from a fresh state to a stop, and lists what stands then.
@@ -37,6 +38,17 @@ pub fn answer(text: &[u8]) -> Listing
         &mut journal,
         limit,
     ))
+}
+
+// What reading the text into the same blank buffers answers, for a program that tells its user why a
+// text is refused.
+pub fn reading(text: &[u8]) -> Reading
+    ensures { λ r. ⌜ saysReading r ≡ readText (now (text .entry)) blank .said ⌝ }
+{
+    let mut cells = [0; 16384];
+    let mut memory = [0; 4096];
+    let mut protect = [0; 4096];
+    decktext::read(text, &mut cells, &mut memory, &mut protect)
 }
 
 // A number in decimal, and the byte after it.

@@ -1,4 +1,4 @@
-use Rattle.decktext.proofs.Walking.{all, Walking, start, sizes, storable, on, stopped, unfinished, Left, at-end, at-malformed, at-fault, walked}
+use Rattle.decktext.proofs.Walking.{textRead, reached, Walking, start, stageable, on, stopped, unfinished, Left, at-end, at-malformed, at-fault, walked}
 use Rattle.decktext.proofs.Parsed.{Taking, start as begin, on as on-value, bad}
 use Rattle.decktext.proofs.Forms.{placed-at, values-at, few, judged, faulty-line, by-fault, some-fault}
 use Rattle.decktext.specs.declared.fault.Fault.{Fault}
@@ -16,7 +16,7 @@ use Rattle.decktext.proofs.line.Judged as judged-type
 use Rattle.decktext.proofs.Tags.{not-first}
 use Rattle.decktext.proofs.Lines.{part, length-part}
 use lib.ListN.{length}
-use Prim.Native.Nat.{ℕ, _+_, _-_, _<_}
+use Prim.Native.Nat.{ℕ, _+_, _-_, _≤_, _<_}
 use mathlib.Core.Path.{_≡_, refl, sym, ap, _∙_}
 use native.Mathlib.Omega.{arith}
 use borrow.Author.Needs.{needs}
@@ -24,29 +24,29 @@ use Rattle.decktext.proofs.deck.walk.Statement.{statement}
 use Rattle.decktext.proofs.deck.walk.Tie as tie
 
 abbrev Inv-loop : tie.InvT-loop
-Inv-loop text cells memory protect writes sizes p at line fault₀ found end w wanted values₀ from₀ i₀ fault values from i = (fault ≡ fault₀) × Taking (valueAs (wantedOf w)) wanted text at end from i values
+Inv-loop text cells memory protect staged sizes p at line k fault₀ found end w wanted values₀ from₀ i₀ fault values from i = (fault ≡ fault₀) × Taking (valueAs (wantedOf w)) wanted text at end from i values
 
 abbrev μ-loop : tie.MeasureT-loop
-μ-loop text cells memory protect writes sizes p at line fault₀ found end w wanted values₀ from₀ i₀ fault values from i = wanted - i
+μ-loop text cells memory protect staged sizes p at line k fault₀ found end w wanted values₀ from₀ i₀ fault values from i = wanted - i
 
 abbrev Inv-lines : tie.InvT-lines
-Inv-lines text cells₀ memory₀ protect₀ writes sizes p₀ at₀ line₀ fault₀ cells memory protect p at line fault = (fault ≡ Fault.Nothing) × Walking text (buffers cells₀ memory₀ protect₀) sizes writes p at line (buffers cells memory protect)
+Inv-lines text cells memory protect staged₀ sizes p₀ at₀ line₀ k₀ fault₀ staged p at line k fault = (fault ≡ Fault.Nothing) × Walking text (buffers cells memory protect) sizes p at line k staged
 
 abbrev μ-lines : tie.MeasureT-lines
-μ-lines text cells₀ memory₀ protect₀ writes sizes p₀ at₀ line₀ fault₀ cells memory protect p at line fault = length text - at
+μ-lines text cells memory protect staged₀ sizes p₀ at₀ line₀ k₀ fault₀ staged p at line k fault = length text - at
 
--- at the head of the walk: the text, the buffers as they were lent and as they are, and the progress that the definition has
+-- at the head of the walk: the text, the buffers that are lent, and the progress that the definition has
 abbrev text : tie.At-lines Inv-loop μ-loop Inv-lines μ-lines → List ℕ
 text c = c .before .before .before .before .before .before .before .args .text .now
 
 abbrev lent : tie.At-lines Inv-loop μ-loop Inv-lines μ-lines → Buffers
 lent c = buffers (c .before .before .before .before .before .before .before .args .cells .now) (c .before .before .before .before .before .before .before .args .memory .now) (c .before .before .before .before .before .before .before .args .protect .now)
 
-abbrev present : tie.At-lines Inv-loop μ-loop Inv-lines μ-lines → Buffers
-present c = buffers (c .lines .cells) (c .lines .memory) (c .lines .protect)
-
 abbrev progress : tie.At-lines Inv-loop μ-loop Inv-lines μ-lines → Progress
-progress c = progressOf (c .lines .p) (c .lines .inv .1 .held)
+progress c = reached (c .lines .p) (c .lines .k) (c .lines .staged) (lent c)
+
+limit : (c : tie.At-lines Inv-loop μ-loop Inv-lines μ-lines) → length (text c) ≤ 32768
+limit c = c .before .before .before .before .before .before .before .pre .0
 
 abbrev wanted-at : tie.At-lines Inv-loop μ-loop Inv-lines μ-lines → Wanted
 wanted-at c = wantedOf (c .lines .p .wanted)
@@ -77,10 +77,10 @@ answer c =
     judged (wanted-at (c .before .before .before .before .before .before .before .before)) (progress (c .before .before .before .before .before .before .before .before)) (line-at (c .before .before .before .before .before .before)) (c .before .before .before .loop .values) (c .before .before .before .loop .inv .1 .size)
     (values-at (wanted-at (c .before .before .before .before .before .before .before .before)) (line-at (c .before .before .before .before .before .before)) (c .before .before .before .before .values-wanted .result) (c .before .before .before .loop .values) (counted (c .before .before .before .before))
     (λ h. c .before .before .before .loop .inv .1 .taken h (omega (arith, c .before .before .before .loop .inv .1 .within, c .before .before .loop-test .left))))
-    ∙ sym (c .judge .ensures (c .before .before .before .before .before .before .before .before .lines .inv .1 .held) (c .before .before .before .before .before .before .before .before .lines .inv .1 .sized))
+    ∙ sym (c .judge .ensures (progress (c .before .before .before .before .before .before .before .before) .held) (c .before .before .before .before .before .before .before .before .lines .inv .1 .sized))
 
 -- a value that is none
-bad-value : (c : tie.After-enum-told Inv-loop μ-loop Inv-lines μ-lines) → all (text (c .before .before .before .before .before .before .before .before .before .before .before)) (lent (c .before .before .before .before .before .before .before .before .before .before .before)) ≡ faulty 16 (c .before .before .before .before .before .before .before .before .before .before .before .lines .line)
+bad-value : (c : tie.After-enum-told Inv-loop μ-loop Inv-lines μ-lines) → textRead (text (c .before .before .before .before .before .before .before .before .before .before .before)) (lent (c .before .before .before .before .before .before .before .before .before .before .before)) ≡ faulty 16 (c .before .before .before .before .before .before .before .before .before .before .before .lines .line)
 unfolding lineRead
 bad-value c =
     stopped (c .before .before .before .before .before .before .before .before .before .before .before .lines .inv .1) (end-at (c .before .before .before .before .before .before .before .before .before)) (ended (c .before .before .before .before .before .before .before .before)) 16
@@ -91,7 +91,7 @@ bad-value c =
 nothing-given : (c : tie.After-fault-of Inv-loop μ-loop Inv-lines μ-lines) (g : GivenLine) → c .before .before .judge .result ≡ Judged.Gives g → ⊥
 nothing-given c g e = not-first (c .before .match2 .keys2) (ap (tagOf judged-type.the-type) e)
 
-bad-line : (c : tie.After-fault-of Inv-loop μ-loop Inv-lines μ-lines) → all (text (c .before .before .before .before .before .before .before .before .before .before)) (lent (c .before .before .before .before .before .before .before .before .before .before)) ≡ faulty (faultNumber (c .fault-of .result)) (c .before .before .before .before .before .before .before .before .before .before .lines .line)
+bad-line : (c : tie.After-fault-of Inv-loop μ-loop Inv-lines μ-lines) → textRead (text (c .before .before .before .before .before .before .before .before .before .before)) (lent (c .before .before .before .before .before .before .before .before .before .before)) ≡ faulty (faultNumber (c .fault-of .result)) (c .before .before .before .before .before .before .before .before .before .before .lines .line)
 bad-line c =
     stopped (c .before .before .before .before .before .before .before .before .before .before .lines .inv .1) (end-at (c .before .before .before .before .before .before .before .before)) (ended (c .before .before .before .before .before .before .before)) (faultNumber (c .fault-of .result))
     (answer (c .before .before) ∙ by-fault (c .before .before .judge .result) (nothing-given c) ∙ ap (λ (f : Fault). stops (faultNumber f)) (sym (c .fault-of .ensures)))
@@ -101,19 +101,19 @@ given : (c : tie.After-known-told2 Inv-loop μ-loop Inv-lines μ-lines) → line
 given c = answer (c .before .before .before) ∙ ap saysJudged (c .before .judged .given .1)
 
 -- the four ways out of the walk
-left : (c : tie.Left-lines Inv-loop μ-loop Inv-lines μ-lines) → Left (text (c .before)) (lent (c .before)) (c .before .before .before .before .before .before .before .before .args .writes) (c .before .lines .p) (c .lines-test .fault) (c .before .lines .line) (present (c .before))
+left : (c : tie.Left-lines Inv-loop μ-loop Inv-lines μ-lines) → Left (text (c .before)) (lent (c .before)) (c .before .lines .p) (c .lines-test .fault) (c .before .lines .line) (c .before .lines .k) (c .before .lines .staged)
 left c =
     ⊎-elim
-    (λ w. at-end (c .before .lines .inv .1) (w .0 .left) (c .lines-test .fault) (w .1 ∙ c .before .lines .inv .0))
+    (λ w. at-end (c .before .lines .inv .1) (limit (c .before)) (w .0 .left) (c .lines-test .fault) (w .1 ∙ c .before .lines .inv .0))
     (⊎-elim
-    (λ w. at-malformed (c .before .lines .inv .1) (w .3) (unfinished (c .before .lines .inv .1) (w .1 .ensures .inside (omega (arith, w .0 .taken))) (w .0 .taken) (w .2 .taken)))
+    (λ w. at-malformed (c .before .lines .inv .1) (limit (c .before)) (w .3) (unfinished (c .before .lines .inv .1) (w .1 .ensures .inside (omega (arith, w .0 .taken))) (w .0 .taken) (w .2 .taken)))
     (⊎-elim
     (λ w.
     let d : tie.After-enum-told Inv-loop μ-loop Inv-lines μ-lines = record { before = record { before = record { before = record { before = record { before = record { before = record { before = record { before = record { before = record { before = record { before = c .before; lines-test = w .0 }; next-line = w .1 }; if1 = w .2 }; values-wanted = w .3 }; loop = w .4 }; loop-test = w .5 }; find = w .6 }; value-arg = w .7 }; value = w .8 }; match = w .9 }; enum-told = w .10 } in
-    at-malformed (c .before .lines .inv .1) (w .11) (bad-value d))
+    at-malformed (c .before .lines .inv .1) (limit (c .before)) (w .11) (bad-value d))
     (λ w.
     let d : tie.After-fault-of Inv-loop μ-loop Inv-lines μ-lines = record { before = record { before = record { before = record { before = record { before = record { before = record { before = record { before = record { before = record { before = c .before; lines-test = w .0 }; next-line = w .1 }; if1 = w .2 }; values-wanted = w .3 }; loop = w .4 }; loop-test = w .5 }; judge-arg = w .6 }; judge = w .7 }; match2 = w .8 }; fault-of = w .9 } in
-    at-fault (c .before .lines .inv .1) (c .lines-test .fault) (λ z. some-fault (w .7 .result) (nothing-given d) (sym (w .9 .ensures) ∙ sym (w .10) ∙ z)) (rw (w .10) (bad-line d)))))
+    at-fault (c .before .lines .inv .1) (limit (c .before)) (c .lines-test .fault) (λ z. some-fault (w .7 .result) (nothing-given d) (sym (w .9 .ensures) ∙ sym (w .10) ∙ z)) (rw (w .10) (bad-line d)))))
     (c .lines-test .came)
 
 sizes-of-requires : tie.Need-sizes-of-requires Inv-loop μ-loop Inv-lines μ-lines
@@ -123,7 +123,7 @@ start-requires : tie.Need-start-requires Inv-loop μ-loop Inv-lines μ-lines
 start-requires c κs = search needs
 
 lines-holds : tie.Need-lines-holds Inv-loop μ-loop Inv-lines μ-lines
-lines-holds c = (refl, start (record { cells = sym (c .before .sizes-of .ensures .0); memory = sym (c .before .sizes-of .ensures .1); protect = sym (c .before .sizes-of .ensures .2) }) (c .start .ensures (buffers (c .before .before .before .before .before .before .args .cells .now) (c .before .before .before .before .before .before .args .memory .now) (c .before .before .before .before .before .before .args .protect .now))))
+lines-holds c = (refl, start (record { cells = sym (c .before .sizes-of .ensures .0); memory = sym (c .before .sizes-of .ensures .1); protect = sym (c .before .sizes-of .ensures .2) }) (c .start .ensures (buffers (c .before .before .before .before .before .before .args .cells .now) (c .before .before .before .before .before .before .args .memory .now) (c .before .before .before .before .before .before .args .protect .now))) (c .before .before .before .before .before .before .pre .1))
 
 next-line-requires : tie.Need-next-line-requires Inv-loop μ-loop Inv-lines μ-lines
 next-line-requires c κs = search needs
@@ -191,7 +191,7 @@ part-judge-end : tie.Need-part-judge-end Inv-loop μ-loop Inv-lines μ-lines
 part-judge-end c = omega (arith, end-at (c .before .before .before .before) .high)
 
 judge-requires : tie.Need-judge-requires Inv-loop μ-loop Inv-lines μ-lines
-judge-requires c κs = omega (arith, c .before .before .before .before .before .before .before .lines .inv .1 .orders, c .before .before .before .before .before .before .lines-test .taken, c .before .before .before .before .before .before .before .before .before .before .before .before .before .before .pre)
+judge-requires c κs = omega (arith, c .before .before .before .before .before .before .before .lines .inv .1 .half, c .before .before .before .before .before .before .lines-test .taken, limit (c .before .before .before .before .before .before .before))
 
 enum-known-judged : tie.Need-enum-known-judged Inv-loop μ-loop Inv-lines μ-lines
 enum-known-judged c = search needs
@@ -199,39 +199,30 @@ enum-known-judged c = search needs
 fault-of-requires : tie.Need-fault-of-requires Inv-loop μ-loop Inv-lines μ-lines
 fault-of-requires c κs = search needs
 
-store-requires : tie.Need-store-requires Inv-loop μ-loop Inv-lines μ-lines
-store-requires c κs = storable (c .before .before .before .before .before .before .before .before .before .before .before .before .before .before .lines .inv .1) (line-at (c .before .before .before .before .before .before .before .before .before .before .before .before)) (givenOf (c .before .before .before .before .judged .given .0 .0)) (given (c .before .before .before))
+stage-requires : tie.Need-stage-requires Inv-loop μ-loop Inv-lines μ-lines
+stage-requires c κs = stageable (c .before .before .before .before .before .before .before .before .before .before .before .before .lines .inv .1) (end-at (c .before .before .before .before .before .before .before .before .before .before)) (ended (c .before .before .before .before .before .before .before .before .before)) (givenOf (c .before .before .judged .given .0 .0)) (given (c .before)) (limit (c .before .before .before .before .before .before .before .before .before .before .before .before))
 
 advance-requires : tie.Need-advance-requires Inv-loop μ-loop Inv-lines μ-lines
-advance-requires c κs = omega (arith, c .before .before .before .before .before .before .before .before .before .before .before .before .before .before .before .before .before .before .before .before .before .lines .inv .1 .orders, c .before .before .before .before .before .before .before .before .before .before .before .before .before .before .before .before .before .before .before .before .lines-test .taken, c .before .before .before .before .before .before .before .before .before .before .before .before .before .before .before .before .before .before .before .before .before .before .before .before .before .before .before .before .pre)
+advance-requires c κs = omega (arith, c .before .before .before .before .before .before .before .before .before .before .before .before .before .lines .inv .1 .half, c .before .before .before .before .before .before .before .before .before .before .before .before .lines-test .taken, limit (c .before .before .before .before .before .before .before .before .before .before .before .before .before))
 
 add-line : tie.Need-add-line Inv-loop μ-loop Inv-lines μ-lines
-add-line c = omega (arith, c .before .before .before .before .before .before .before .before .before .before .before .before .before .before .before .before .before .before .before .before .before .before .lines .inv .1 .lines, c .before .before .before .before .before .before .before .before .before .before .before .before .before .before .before .before .before .before .before .before .before .before .lines .inv .1 .reach, c .before .before .before .before .before .before .before .before .before .before .before .before .before .before .before .before .before .before .before .before .before .before .before .before .before .before .before .before .before .pre)
+add-line c = omega (arith, c .before .before .before .before .before .before .before .before .before .before .before .before .before .before .lines .inv .1 .lines, c .before .before .before .before .before .before .before .before .before .before .before .before .before .before .lines .inv .1 .reach, limit (c .before .before .before .before .before .before .before .before .before .before .before .before .before .before))
 
 lines-less : tie.Need-lines-less Inv-loop μ-loop Inv-lines μ-lines
-lines-less c = omega (arith, past-end (c .before .before .before .before .before .before .before .before .before .before .before .before .before .before .before .before .before .before .before), end-at (c .before .before .before .before .before .before .before .before .before .before .before .before .before .before .before .before .before .before .before .before) .low, end-at (c .before .before .before .before .before .before .before .before .before .before .before .before .before .before .before .before .before .before .before .before) .high, ended (c .before .before .before .before .before .before .before .before .before .before .before .before .before .before .before .before .before .before .before))
+lines-less c = omega (arith, past-end (c .before .before .before .before .before .before .before .before .before .before .before), end-at (c .before .before .before .before .before .before .before .before .before .before .before .before) .low, end-at (c .before .before .before .before .before .before .before .before .before .before .before .before) .high, ended (c .before .before .before .before .before .before .before .before .before .before .before))
 
 lines-again : tie.Need-lines-again Inv-loop μ-loop Inv-lines μ-lines
 lines-again c = (
-  c .before .before .before .before .before .before .before .before .before .before .before .before .before .before .before .before .before .loop .inv .0 ∙ c .before .before .before .before .before .before .before .before .before .before .before .before .before .before .before .before .before .before .before .before .before .before .lines .inv .0,
-  on (c .before .before .before .before .before .before .before .before .before .before .before .before .before .before .before .before .before .before .before .before .before .before .lines .inv .1) (end-at (c .before .before .before .before .before .before .before .before .before .before .before .before .before .before .before .before .before .before .before .before)) (ended (c .before .before .before .before .before .before .before .before .before .before .before .before .before .before .before .before .before .before .before)) (givenOf (c .before .before .before .before .before .before .before .before .before .before .before .before .judged .given .0 .0)) (given (c .before .before .before .before .before .before .before .before .before .before .before))
-      (c .advance .result) (c .advance .ensures) _ (past-end (c .before .before .before .before .before .before .before .before .before .before .before .before .before .before .before .before .before .before .before)) _ (c .before .before .before .before .before .before .before .store .ensures),
+  c .before .before .before .before .before .before .before .before .before .loop .inv .0 ∙ c .before .before .before .before .before .before .before .before .before .before .before .before .before .before .lines .inv .0,
+  on (c .before .before .before .before .before .before .before .before .before .before .before .before .before .before .lines .inv .1) (end-at (c .before .before .before .before .before .before .before .before .before .before .before .before)) (ended (c .before .before .before .before .before .before .before .before .before .before .before)) (givenOf (c .before .before .before .before .judged .given .0 .0)) (given (c .before .before .before)) (limit (c .before .before .before .before .before .before .before .before .before .before .before .before .before .before))
+      (c .advance .result) (c .advance .ensures) _ (past-end (c .before .before .before .before .before .before .before .before .before .before .before)) _ (c .before .stage .ensures .0) _ (c .before .stage .ensures .1),
 )
 
 conclude-requires : tie.Need-conclude-requires Inv-loop μ-loop Inv-lines μ-lines
 conclude-requires c κs = search needs
 
-same-length : tie.Need-same-length Inv-loop μ-loop Inv-lines μ-lines
-same-length c = sizes (c .before .before .lines .inv .1) .cells ∙ sym (c .before .before .lines .inv .1 .first .cells)
-
-same-length-2 : tie.Need-same-length-2 Inv-loop μ-loop Inv-lines μ-lines
-same-length-2 c = sizes (c .before .before .lines .inv .1) .memory ∙ sym (c .before .before .lines .inv .1 .first .memory)
-
-same-length-3 : tie.Need-same-length-3 Inv-loop μ-loop Inv-lines μ-lines
-same-length-3 c = sizes (c .before .before .lines .inv .1) .protect ∙ sym (c .before .before .lines .inv .1 .first .protect)
-
 returns : tie.Need-returns Inv-loop μ-loop Inv-lines μ-lines
-returns c = walked (left (c .before)) (c .conclude .ensures)
+returns c = walked (record { reading = c .conclude .result; halfwords = c .before .before .lines .k }) (left (c .before)) (c .conclude .ensures) refl
 
 pub walk-spec : {M : Type 1} → statement M
 walk-spec =
@@ -267,13 +258,10 @@ walk-spec =
     judge-requires
     enum-known-judged
     fault-of-requires
-    store-requires
+    stage-requires
     advance-requires
     add-line
     lines-less
     lines-again
     conclude-requires
-    same-length
-    same-length-2
-    same-length-3
     returns)

@@ -1,4 +1,4 @@
-use Rattle.decktext.specs.Read.{bufferedWith, advanced}
+use Rattle.decktext.specs.Read.{bufferedWith, progressed}
 use borrow.Author.Needs.{needs}
 use Rattle.decktext.proofs.line.advance.Statement.{statement}
 use Rattle.decktext.proofs.line.advance.Tie as tie
@@ -28,19 +28,19 @@ add-t12 : tie.Need-add-t12
 add-t12 c = search needs
 
 returns : tie.Need-returns
-unfolding bufferedWith advanced
+unfolding bufferedWith progressed
 returns c = λ b. rw (c .before .enum-told .given .1, c .after-heading .ensures)
 
 returns-2 : tie.Need-returns-2
-unfolding bufferedWith advanced
+unfolding bufferedWith progressed
 returns-2 c = λ b. rw (c .before .enum-told2 .given .1)
 
 returns-3 : tie.Need-returns-3
-unfolding bufferedWith advanced
+unfolding bufferedWith progressed
 returns-3 c = λ b. rw (c .enum-told3 .given .1)
 
 returns-4 : tie.Need-returns-4
-unfolding bufferedWith advanced
+unfolding bufferedWith progressed
 returns-4 c = λ b. rw (c .before .before .g .given .1)
 
 pub advance-spec : {M : Type 1} → statement M

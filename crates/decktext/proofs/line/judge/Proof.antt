@@ -1,5 +1,5 @@
 use Rattle.decktext.proofs.Same.{same-none, same-length}
-use Rattle.decktext.specs.Walk.{judgedAs}
+use Rattle.decktext.specs.Walk.{judgedLine}
 use mathlib.Core.List.{[]}
 use borrow.Author.Needs.{needs}
 use Rattle.decktext.proofs.line.judge.Statement.{statement}
@@ -18,7 +18,7 @@ enum-told-2 : tie.Need-enum-told-2
 enum-told-2 c = search needs
 
 returns : tie.Need-returns
-unfolding judgedAs
+unfolding judgedLine
 returns c = λ b s. rw (c .before .enum-told2 .given .1, same-none _ (c .if1 .taken))
 
 array-read-t17 : tie.Need-array-read-t17
@@ -61,19 +61,19 @@ judge-halfword-requires : tie.Need-judge-halfword-requires
 judge-halfword-requires c κs = search needs
 
 returns-2 : tie.Need-returns-2
-unfolding judgedAs
+unfolding judgedLine
 returns-2 c = λ b s. rw (c .before .before .enum-told .given .1) (c .judge-heading .ensures)
 
 returns-3 : tie.Need-returns-3
-unfolding judgedAs
+unfolding judgedLine
 returns-3 c = λ b s. rw (c .before .before .enum-told2 .given .1, same-length _ [] (c .before .if1 .left)) (c .judge-order .ensures b s)
 
 returns-4 : tie.Need-returns-4
-unfolding judgedAs
+unfolding judgedLine
 returns-4 c = λ b s. rw (c .before .before .enum-told3 .given .1) (c .judge-heading2 .ensures)
 
 returns-5 : tie.Need-returns-5
-unfolding judgedAs
+unfolding judgedLine
 returns-5 c = λ b s. rw (c .before .enum-told4 .given .1) (c .judge-halfword .ensures b s)
 
 pub judge-spec : {M : Type 1} → statement M

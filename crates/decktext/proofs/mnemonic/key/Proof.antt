@@ -1,6 +1,6 @@
 use Rattle.decktext.proofs.Digits.{grown, within}
 use Rattle.decktext.proofs.Same.{next}
-use Rattle.decktext.specs.Key.{bytesFrom, keyOf}
+use Rattle.decktext.specs.Key.{bytesFrom, nameKey}
 use lib.ListN.{length, drop, drop-of-length-le}
 use Prim.Native.Nat.{ℕ, _+_, _-_, _*_, _^_, _≤_, _<_}
 use mathlib.Core.Path.{_≡_, refl, ap}
@@ -50,10 +50,12 @@ add-result : tie.Need-add-result Inv-loop μ-loop
 add-result c = let h = within 256 (c .before .loop .i) 4 (omega arith) (c .before .loop .inv .1) (omega arith) in omega arith
 
 returns : tie.Need-returns Inv-loop μ-loop
-unfolding keyOf bytesFrom
-returns c =
-    let e : c .before .loop .n ≡ bytesFrom 0 (c .before .before .args .v .now) = rw (drop-of-length-le (c .before .before .args .v .now) (c .loop-test .left)) at (c .before .loop .inv .2) in
-    ap (λ (x : ℕ). x * 8 + length (c .before .before .args .v .now)) e
+unfolding nameKey bytesFrom
+returns c = (
+  let e : c .before .loop .n ≡ bytesFrom 0 (c .before .before .args .v .now) = rw (drop-of-length-le (c .before .before .args .v .now) (c .loop-test .left)) at (c .before .loop .inv .2) in
+      ap (λ (x : ℕ). x * 8 + length (c .before .before .args .v .now)) e,
+  let h = within 256 (c .before .loop .i) 4 (omega arith) (c .before .loop .inv .1) (omega arith) in omega arith,
+)
 
 pub key-spec : {M : Type 1} → statement M
 key-spec =
