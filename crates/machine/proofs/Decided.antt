@@ -72,12 +72,12 @@ module _ (d p : List ℕ) (g : Registers) (used : ℕ) (m : List ℕ) (journal :
       record { entry = k3 .0; pointer = omega (arith, q .0 .size); room = r .0; fine = r .1 }
 
   -- what the code that writes a step asks
-  pub committable : decided d p g used m journal ≡ gives e → Committable e g used (length m) journal
+  pub committable : decided d p g used m journal ≡ gives e → Committable e (g .status) used (length m) journal
   committable h =
       let t = decided-taken h in
       let checks = held (length p) g used (length m) journal (entered (length p) g used (length m) journal (length d) (t .entry) .1) in
       record {
-        registers = t .fine .registers;
+        register = t .fine .registers;
         there = t .fine .there;
         room = omega (arith, t .room);
         count = omega (arith, t .room, checks .journal-size);

@@ -5,6 +5,7 @@ use mathlib.Core.List.{List}
 use mathlib.Core.Bool.{true}
 use Rattle.machine.specs.declared.state.Registers.{Registers}
 use Rattle.machine.specs.declared.state.State.{State}
+use Rattle.machine.specs.declared.state.Status.{Status}
 use Rattle.machine.specs.declared.verdict.Effect.{Effect}
 use Rattle.machine.specs.Change.{oldOf, memoryAfter, registersAfter, registered, placed}
 use Rattle.machine.specs.Journal.{encoded, written}
@@ -17,6 +18,9 @@ pub record Machine : Type 0 where
 
 abbrev pub machine : State → List ℕ → List ℕ → Machine
 machine s m j = record { state = s; memory = m; journal = j }
+
+abbrev pub registers : List ℕ → List ℕ → Status → Registers
+registers f n s = record { float = f; general = n; status = s }
 
 abbrev pub state : Registers → ℕ → State
 state g used = record { registers = g; used = used }
@@ -37,9 +41,9 @@ committed e x =
     (written (x .journal) (x .state .used) (encoded (beforeOf (x .state .registers) (x .memory) e)))
 
 -- what the checks leave known where an effect is committed
-pub record Committable (e : Effect) (g : Registers) (used memory journal : ℕ) : Type 0 where
-  pub registers : registered (e .change) ≡ true
+pub record Committable (e : Effect) (s : Status) (used memory journal : ℕ) : Type 0 where
+  pub register : registered (e .change) ≡ true
   pub there : placed (e .change) memory ≡ true
   pub room : used * 4 + 4 ≤ journal
   pub count : used < 4096
-  pub status : Packable (g .status)
+  pub status : Packable s

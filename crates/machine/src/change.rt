@@ -8,6 +8,8 @@ ghost use mathlib.Core.Path.{_≡_};
 ghost use mathlib.Core.Bool.{true};
 ghost use Prim.Native.Nat.{_+_, _≤_};
 ghost use lib.ListN.{length};
+ghost use Rattle.machine.specs.declared.state.Status.{Status};
+ghost use Rattle.machine.specs.Machine.{registers};
 ghost use Rattle.machine.specs.Change.{
   placed,
   registered,
@@ -82,19 +84,24 @@ pub fn is_guarded(protect: &[u8], ch: Change) -> bool
     }
 }
 
-// The same places with their present contents.
-pub fn old(g: Registers, memory: &[u16], ch: Change) -> Change
+// The same places with their present contents. The registers are lent, since a copy of a set that was
+// just stored to is slow.
+pub fn old<'a>(
+    float: &'a [u32; 8],
+    general: &'a [u32; 8],
+    memory: &'a [u16],
+    ch: Change,
+) -> Change
     requires { ⌜ (registered ch ≡ true) × (placed ch (length (now memory)) ≡ true) ⌝ }
-    ensures { λ r. ⌜ r ≡ oldOf g (now (memory .entry)) ch ⌝ }
+    ensures { λ r. ⌜ ((s : Status) → r ≡ oldOf (registers (now (float .entry)) (now (general .entry)) s) (now (memory .entry)) ch) ⌝ }
 {
     match ch {
         Change::Nothing => Change::Nothing,
-        Change::Float(r, w) => Change::Float(r, crate::operand::float_at(g, r)),
+        Change::Float(r, w) => Change::Float(r, float[r as usize]),
         Change::Pair(r, hi, lo) => {
-            let a = crate::operand::float_pair(g, r);
-            Change::Pair(r, a.high, a.low)
+            Change::Pair(r, float[r as usize], float[(r as usize + 1) % 8])
         }
-        Change::General(r, w) => Change::General(r, crate::operand::general_at(g, r)),
+        Change::General(r, w) => Change::General(r, general[r as usize]),
         Change::Two(at, w) => Change::Two(at, word_at(memory, at as usize)),
         Change::Four(at, hi, lo) => {
             let a = crate::operand::long_at(memory, at as usize);

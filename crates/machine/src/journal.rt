@@ -2,7 +2,6 @@
 use crate::change::Change;
 use crate::change::old;
 use crate::check::condition_formed;
-use crate::state::Registers;
 use crate::state::Status;
 use crate::stop::Stop;
 use crate::verdict::Effect;
@@ -21,7 +20,7 @@ ghost use Rattle.machine.specs.Journal.{
   changeFrom,
   decoded,
 };
-ghost use Rattle.machine.specs.Machine.{beforeOf, Committable};
+ghost use Rattle.machine.specs.Machine.{registers, beforeOf, Committable};
 ghost use Rattle.machine.specs.Says.{says};
 ghost use Rattle.machine.specs.Status.{packed, unpacked, Packable};
 
@@ -111,15 +110,22 @@ fn encode(e: Effect) -> Record
 }
 
 // The record of what an effect overwrites, at the used count.
-pub fn keep(g: Registers, used: u32, e: Effect, memory: &[u16], journal: &mut [u32])
-    requires { ⌜ Committable e g used (length (now memory)) (length (now journal)) ⌝ }
+pub fn keep<'a>(
+    float: &'a [u32; 8],
+    general: &'a [u32; 8],
+    status: Status,
+    used: u32,
+    e: Effect,
+    memory: &'a [u16],
+    journal: &mut [u32],
+)
+    requires { ⌜ Committable e status used (length (now memory)) (length (now journal)) ⌝ }
     ensures { λ _. ⌜ now (journal .exit)
-        ≡ written (now (journal .entry)) used (encoded (beforeOf g (now (memory .entry)) e)) ⌝ }
+        ≡ written (now (journal .entry)) used (encoded (beforeOf (registers (now (float .entry)) (now (general .entry)) status) (now (memory .entry)) e)) ⌝ }
 {
     let change = e.change;
-    let status = g.status;
     let before = Effect {
-        change: old(g, memory, change),
+        change: old(float, general, memory, change),
         status,
     };
     write_record(journal, used, encode(before));

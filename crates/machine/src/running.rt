@@ -63,7 +63,16 @@ pub fn run(
             Verdict::Granted(e) => {
                 let change = e.change;
                 let status = e.status;
-                keep(registers, used, e, memory, journal);
+                let before = registers.status;
+                keep(
+                    &registers.float,
+                    &registers.general,
+                    before,
+                    used,
+                    e,
+                    memory,
+                    journal,
+                );
                 store(change, memory);
                 put_float(change, &mut registers.float);
                 put_general(change, &mut registers.general);

@@ -1,5 +1,6 @@
 -- `machine::change::old` meets its contract: each arm computes its case; its places are there.
 -- Assumes nothing.
+use native.Mathlib.Omega.{arith}
 use borrow.Author.Needs.{needs}
 use Rattle.machine.specs.Change.{oldOf}
 use Rattle.machine.proofs.Placed.{registered-float, registered-pair, registered-general, placed-two, placed-four}
@@ -12,20 +13,50 @@ enum-told c = search needs
 enum-known-ch : tie.Need-enum-known-ch
 enum-known-ch c = search needs
 
-float-at-requires : tie.Need-float-at-requires
-float-at-requires c κs = registered-float (c .before .ch .given .1) (c .before .before .before .before .pre .0)
+cast-t19 : tie.Need-cast-t19
+cast-t19 c = search needs
+
+mul-t20 : tie.Need-mul-t20
+mul-t20 c = search needs
+
+element-copy-out-t23 : tie.Need-element-copy-out-t23
+element-copy-out-t23 c = omega (arith, registered-float (c .before .ch .given .1) (c .before .before .before .before .pre .0))
 
 enum-known-ch-2 : tie.Need-enum-known-ch-2
 enum-known-ch-2 c = search needs
 
-float-pair-requires : tie.Need-float-pair-requires
-float-pair-requires c κs = registered-pair (c .before .ch2 .given .1) (c .before .before .before .before .pre .0)
+cast-t24 : tie.Need-cast-t24
+cast-t24 c = search needs
+
+mul-t25 : tie.Need-mul-t25
+mul-t25 c = search needs
+
+element-copy-out-t28 : tie.Need-element-copy-out-t28
+element-copy-out-t28 c = omega (arith, registered-pair (c .before .ch2 .given .1) (c .before .before .before .before .pre .0))
+
+cast-t29 : tie.Need-cast-t29
+cast-t29 c = search needs
+
+add-t30 : tie.Need-add-t30
+add-t30 c = search needs
+
+mul-t32 : tie.Need-mul-t32
+mul-t32 c = search needs
+
+element-copy-out-t35 : tie.Need-element-copy-out-t35
+element-copy-out-t35 c = search needs
 
 enum-known-ch-3 : tie.Need-enum-known-ch-3
 enum-known-ch-3 c = search needs
 
-general-at-requires : tie.Need-general-at-requires
-general-at-requires c κs = registered-general (c .before .ch3 .given .1) (c .before .before .before .before .pre .0)
+cast-t36 : tie.Need-cast-t36
+cast-t36 c = search needs
+
+mul-t37 : tie.Need-mul-t37
+mul-t37 c = search needs
+
+element-copy-out-t40 : tie.Need-element-copy-out-t40
+element-copy-out-t40 c = omega (arith, registered-general (c .before .ch3 .given .1) (c .before .before .before .before .pre .0))
 
 enum-known-ch-4 : tie.Need-enum-known-ch-4
 enum-known-ch-4 c = search needs
@@ -47,27 +78,27 @@ long-at-requires c κs = placed-four (c .before .ch5 .given .1) (c .before .befo
 
 returns : tie.Need-returns
 unfolding oldOf
-returns c = rw (c .enum-told .given .1)
+returns c = λ s. rw (c .enum-told .given .1)
 
 returns-2 : tie.Need-returns-2
 unfolding oldOf
-returns-2 c = rw (c .before .before .ch .given .1, c .float-at .ensures)
+returns-2 c = λ s. rw (c .before .before .ch .given .1)
 
 returns-3 : tie.Need-returns-3
 unfolding oldOf
-returns-3 c = rw (c .before .before .ch2 .given .1, c .float-pair .ensures)
+returns-3 c = λ s. rw (c .before .before .before .ch2 .given .1)
 
 returns-4 : tie.Need-returns-4
 unfolding oldOf
-returns-4 c = rw (c .before .before .ch3 .given .1, c .general-at .ensures)
+returns-4 c = λ s. rw (c .before .before .ch3 .given .1)
 
 returns-5 : tie.Need-returns-5
 unfolding oldOf
-returns-5 c = rw (c .before .before .ch4 .given .1, c .word-at .ensures)
+returns-5 c = λ s. rw (c .before .before .ch4 .given .1, c .word-at .ensures)
 
 returns-6 : tie.Need-returns-6
 unfolding oldOf
-returns-6 c = rw (c .before .before .ch5 .given .1, c .long-at .ensures)
+returns-6 c = λ s. rw (c .before .before .ch5 .given .1, c .long-at .ensures)
 
 pub old-spec : {M : Type 1} → statement M
 old-spec =
@@ -75,11 +106,21 @@ old-spec =
     (tie.spec
     enum-told
     enum-known-ch
-    float-at-requires
+    cast-t19
+    mul-t20
+    element-copy-out-t23
     enum-known-ch-2
-    float-pair-requires
+    cast-t24
+    mul-t25
+    element-copy-out-t28
+    cast-t29
+    add-t30
+    mul-t32
+    element-copy-out-t35
     enum-known-ch-3
-    general-at-requires
+    cast-t36
+    mul-t37
+    element-copy-out-t40
     enum-known-ch-4
     cast-word-at
     word-at-requires
