@@ -88,6 +88,17 @@ fn run(name: &'static str, orders: &[[u16; 4]], s: State, memory: Vec<u16>) -> R
     )
 }
 
+/// A call for each step on the plain sides too: the panel library is called through C's conventions and cannot be inlined.
+#[inline(never)]
+fn plain_step(s: &mut State, b: &mut Buffers) -> u8 {
+    reference::step(s, b)
+}
+
+#[inline(never)]
+fn tuned_step(s: &mut State, b: &mut Buffers) -> (u32, u8) {
+    tuned::run(s, b, 1)
+}
+
 /// Single calls, as a step key makes them.
 fn stepping(name: &'static str, orders: &[[u16; 4]], s: State, memory: Vec<u16>) -> Row {
     let mut s = s;
@@ -111,14 +122,14 @@ fn stepping(name: &'static str, orders: &[[u16; 4]], s: State, memory: Vec<u16>)
             &mut || {
                 let mut s = black_box(s);
                 for _ in 0..STEPS {
-                    assert_eq!(reference::step(&mut s, &mut c), 0);
+                    assert_eq!(plain_step(&mut s, &mut c), 0);
                 }
                 black_box(&s);
             },
             &mut || {
                 let mut s = black_box(s);
                 for _ in 0..STEPS {
-                    assert_eq!(tuned::run(&mut s, &mut d, 1), (1, 0));
+                    assert_eq!(tuned_step(&mut s, &mut d), (1, 0));
                 }
                 black_box(&s);
             },
