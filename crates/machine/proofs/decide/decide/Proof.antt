@@ -20,14 +20,20 @@ number-requires c κs = search needs
 
 returns : tie.Need-returns
 unfolding decided
-returns c = let checks = c .before .before .entry in rw (← checks .ensures, ne-eqb (numberOf (checks .result)) 0 (λ z. c .if1 .taken (c .before .number .ensures ∙ z)))
+returns c =
+    let checks = c .before .before .entry in
+    rw (← checks .ensures, ne-eqb (numberOf (checks .result)) 0 (λ z. c .if1 .taken (c .before .number .ensures ∙ z)))
 
 cast-p : tie.Need-cast-p
 cast-p c = search needs
 
 returns-2 : tie.Need-returns-2
 unfolding decided
-returns-2 c = let checks = c .before .before .before .before .entry in let zero = sym (c .before .before .before .number .ensures) ∙ c .before .before .if1 .left in let passes = eq-eqb (numberOf (checks .result)) 0 zero in rw (← checks .ensures, passes, le-ltb _ _ (c .if2 .taken))
+returns-2 c =
+    let checks = c .before .before .before .before .entry in
+    let zero = sym (c .before .before .before .number .ensures) ∙ c .before .before .if1 .left in
+    let passes = eq-eqb (numberOf (checks .result)) 0 zero in
+    rw (← checks .ensures, passes, le-ltb _ _ (c .if2 .taken))
 
 order-at-requires : tie.Need-order-at-requires
 order-at-requires c κs = search needs
@@ -42,15 +48,49 @@ enum-known-checked : tie.Need-enum-known-checked
 enum-known-checked c = search needs
 
 judge-requires : tie.Need-judge-requires
-judge-requires c κs = let zero = sym (c .before .before .before .before .before .before .before .before .number .ensures) ∙ c .before .before .before .before .before .before .before .if1 .left in let e = entered _ _ _ _ _ _ (sym (c .before .before .before .before .before .before .before .before .before .entry .ensures) ∙ zero) in let w = legal-passed _ _ (sym (c .before .before .before .legal .ensures) ∙ ap saysLegality (c .before .checked .given .1)) in record { first = w .first; second = w .second; span = w .span; stores = w .stored; cover = held _ _ _ _ _ (e .1) .cover; onward = omega (arith, e .0 .size, c .before .before .before .before .before .if2 .left) }
+judge-requires c κs =
+    let zero = sym (c .before .before .before .before .before .before .before .before .number .ensures) ∙ c .before .before .before .before .before .before .before .if1 .left in
+    let e = entered _ _ _ _ _ _ (sym (c .before .before .before .before .before .before .before .before .before .entry .ensures) ∙ zero) in
+    let w = legal-passed _ _ (sym (c .before .before .before .legal .ensures) ∙ ap saysLegality (c .before .checked .given .1)) in
+    record {
+      first = w .first;
+      second = w .second;
+      span = w .span;
+      stores = w .stored;
+      cover = held _ _ _ _ _ (e .1) .cover;
+      onward = omega (arith, e .0 .size, c .before .before .before .before .before .if2 .left);
+    }
 
 returns-3 : tie.Need-returns-3
 unfolding decided
-returns-3 c = let checks = c .before .before .before .before .before .before .before .before .entry in let zero = sym (c .before .before .before .before .before .before .before .number .ensures) ∙ c .before .before .before .before .before .before .if1 .left in let passes = eq-eqb (numberOf (checks .result)) 0 zero in rw (← checks .ensures, passes, lt-ltb _ _ (c .before .before .before .before .if2 .left), ← c .before .before .before .order-at .ensures, ← c .before .before .legal .ensures, c .enum-told .given .1)
+returns-3 c =
+    let checks = c .before .before .before .before .before .before .before .before .entry in
+    let zero = sym (c .before .before .before .before .before .before .before .number .ensures) ∙ c .before .before .before .before .before .before .if1 .left in
+    let passes = eq-eqb (numberOf (checks .result)) 0 zero in
+    rw (
+      ← checks .ensures,
+      passes,
+      lt-ltb _ _ (c .before .before .before .before .if2 .left),
+      ← c .before .before .before .order-at .ensures,
+      ← c .before .before .legal .ensures,
+      c .enum-told .given .1,
+    )
 
 returns-4 : tie.Need-returns-4
 unfolding decided
-returns-4 c = let checks = c .before .before .before .before .before .before .before .before .before .before .entry in let zero = sym (c .before .before .before .before .before .before .before .before .before .number .ensures) ∙ c .before .before .before .before .before .before .before .before .if1 .left in let passes = eq-eqb (numberOf (checks .result)) 0 zero in rw (← checks .ensures, passes, lt-ltb _ _ (c .before .before .before .before .before .before .if2 .left), ← c .before .before .before .before .before .order-at .ensures, ← c .before .before .before .before .legal .ensures, c .before .before .checked .given .1) (c .judge .ensures)
+returns-4 c =
+    let checks = c .before .before .before .before .before .before .before .before .before .before .entry in
+    let zero = sym (c .before .before .before .before .before .before .before .before .before .number .ensures) ∙ c .before .before .before .before .before .before .before .before .if1 .left in
+    let passes = eq-eqb (numberOf (checks .result)) 0 zero in
+    rw (
+      ← checks .ensures,
+      passes,
+      lt-ltb _ _ (c .before .before .before .before .before .before .if2 .left),
+      ← c .before .before .before .before .before .order-at .ensures,
+      ← c .before .before .before .before .legal .ensures,
+      c .before .before .checked .given .1,
+    )
+    (c .judge .ensures)
 
 pub decide-spec : {M : Type 1} → statement M
 decide-spec =

@@ -18,7 +18,8 @@ held-requires c κs = search needs
 
 returns-2 : tie.Need-returns-2
 unfolding entryStop
-returns-2 c = rw (← c .before .before .deck-sized .ensures, not-false (c .before .before .deck-sized .result) (c .before .if1 .left)) (c .held .ensures)
+returns-2 c =
+    rw (← c .before .before .deck-sized .ensures, not-false (c .before .before .deck-sized .result) (c .before .if1 .left)) (c .held .ensures)
 
 pub entry-spec : {M : Type 1} → statement M
 entry-spec = tie.close (tie.spec deck-sized-requires returns held-requires returns-2)

@@ -18,11 +18,23 @@ state-formed-requires c κs = search needs
 
 returns-2 : tie.Need-returns-2
 unfolding heldStop
-returns-2 c = rw (← c .before .before .before .buffers-sized .ensures, not-false (c .before .before .before .buffers-sized .result) (c .before .before .if1 .left), ← c .before .state-formed .ensures, not-true (c .before .state-formed .result) (c .if2 .taken))
+returns-2 c =
+    rw (
+      ← c .before .before .before .buffers-sized .ensures,
+      not-false (c .before .before .before .buffers-sized .result) (c .before .before .if1 .left),
+      ← c .before .state-formed .ensures,
+      not-true (c .before .state-formed .result) (c .if2 .taken),
+    )
 
 returns-3 : tie.Need-returns-3
 unfolding heldStop
-returns-3 c = rw (← c .before .before .before .buffers-sized .ensures, not-false (c .before .before .before .buffers-sized .result) (c .before .before .if1 .left), ← c .before .state-formed .ensures, not-false (c .before .state-formed .result) (c .if2 .left))
+returns-3 c =
+    rw (
+      ← c .before .before .before .buffers-sized .ensures,
+      not-false (c .before .before .before .buffers-sized .result) (c .before .before .if1 .left),
+      ← c .before .state-formed .ensures,
+      not-false (c .before .state-formed .result) (c .if2 .left),
+    )
 
 pub held-spec : {M : Type 1} → statement M
 held-spec =

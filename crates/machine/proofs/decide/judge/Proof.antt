@@ -31,24 +31,73 @@ is-present-requires c κs = rw (c .span .ensures) (c .before .before .before .be
 
 returns-3 : tie.Need-returns-3
 unfolding judged
-returns-3 c = let a = c .before .before .before .before .before .before .before .before .before .args in let room = lt-ltb (a .used) (a .journal / 4) (leb-false (a .journal / 4) (a .used) (c .before .before .before .before .if2 .left)) in rw (← c .before .before .before .before .before .before .halts .ensures, c .before .before .before .before .before .if1 .left, room, ← c .before .before .before .address .ensures, ← c .before .before .span .ensures, ← c .before .is-present .ensures, not-true (c .before .is-present .result) (c .if3 .taken))
+returns-3 c =
+    let a = c .before .before .before .before .before .before .before .before .before .args in
+    let room = lt-ltb (a .used) (a .journal / 4) (leb-false (a .journal / 4) (a .used) (c .before .before .before .before .if2 .left)) in
+    rw (
+      ← c .before .before .before .before .before .before .halts .ensures,
+      c .before .before .before .before .before .if1 .left,
+      room,
+      ← c .before .before .before .address .ensures,
+      ← c .before .before .span .ensures,
+      ← c .before .is-present .ensures,
+      not-true (c .before .is-present .result) (c .if3 .taken),
+    )
 
 stored-requires : tie.Need-stored-requires
 stored-requires c κs = search needs
 
 any-protected-requires : tie.Need-any-protected-requires
-any-protected-requires c κs = let there = rw (c .before .before .before .span .ensures) at (sym (c .before .before .is-present .ensures) ∙ not-false (c .before .before .is-present .result) (c .before .if3 .left)) in rw (c .stored .ensures, c .before .before .before .before .before .before .before .before .before .before .pre .cover) (present-fewer _ _ _ _ (c .before .before .before .before .before .before .before .before .before .before .pre .stores) there)
+any-protected-requires c κs =
+    let there = rw (c .before .before .before .span .ensures) at (sym (c .before .before .is-present .ensures) ∙ not-false (c .before .before .is-present .result) (c .before .if3 .left)) in
+    rw (
+      c .stored .ensures,
+      c .before .before .before .before .before .before .before .before .before .before .pre .cover,
+    )
+    (present-fewer _ _ _ _ (c .before .before .before .before .before .before .before .before .before .before .pre .stores) there)
 
 returns-4 : tie.Need-returns-4
 unfolding judged
-returns-4 c = let a = c .before .before .before .before .before .before .before .before .before .before .before .before .args in let room = lt-ltb (a .used) (a .journal / 4) (leb-false (a .journal / 4) (a .used) (c .before .before .before .before .before .before .before .if2 .left)) in rw (← c .before .before .before .before .before .before .before .before .before .halts .ensures, c .before .before .before .before .before .before .before .before .if1 .left, room, ← c .before .before .before .before .before .before .address .ensures, ← c .before .before .before .before .before .span .ensures, ← c .before .before .before .before .is-present .ensures, not-false (c .before .before .before .before .is-present .result) (c .before .before .before .if3 .left), ← c .before .before .stored .ensures, ← c .before .any-protected .ensures, c .if4 .taken)
+returns-4 c =
+    let a = c .before .before .before .before .before .before .before .before .before .before .before .before .args in
+    let room = lt-ltb (a .used) (a .journal / 4) (leb-false (a .journal / 4) (a .used) (c .before .before .before .before .before .before .before .if2 .left)) in
+    rw (
+      ← c .before .before .before .before .before .before .before .before .before .halts .ensures,
+      c .before .before .before .before .before .before .before .before .if1 .left,
+      room,
+      ← c .before .before .before .before .before .before .address .ensures,
+      ← c .before .before .before .before .before .span .ensures,
+      ← c .before .before .before .before .is-present .ensures,
+      not-false (c .before .before .before .before .is-present .result) (c .before .before .before .if3 .left),
+      ← c .before .before .stored .ensures,
+      ← c .before .any-protected .ensures,
+      c .if4 .taken,
+    )
 
 effect-requires : tie.Need-effect-requires
-effect-requires c κs = record { first = c .before .before .before .before .before .before .before .before .before .before .before .before .pre .first; second = c .before .before .before .before .before .before .before .before .before .before .before .before .pre .second; there = rw (← c .before .before .before .before .before .span .ensures, ← c .before .before .before .before .before .before .address .ensures) (sym (c .before .before .before .before .is-present .ensures) ∙ not-false (c .before .before .before .before .is-present .result) (c .before .before .before .if3 .left)); onward = c .before .before .before .before .before .before .before .before .before .before .before .before .pre .onward }
+effect-requires c κs =
+    record {
+      first = c .before .before .before .before .before .before .before .before .before .before .before .before .pre .first;
+      second = c .before .before .before .before .before .before .before .before .before .before .before .before .pre .second;
+      there = rw (← c .before .before .before .before .before .span .ensures, ← c .before .before .before .before .before .before .address .ensures) (sym (c .before .before .before .before .is-present .ensures) ∙ not-false (c .before .before .before .before .is-present .result) (c .before .before .before .if3 .left));
+      onward = c .before .before .before .before .before .before .before .before .before .before .before .before .pre .onward;
+    }
 
 returns-5 : tie.Need-returns-5
 unfolding judged
-returns-5 c = let a = c .before .before .before .before .before .before .before .before .before .before .before .before .before .args in let room = lt-ltb (a .used) (a .journal / 4) (leb-false (a .journal / 4) (a .used) (c .before .before .before .before .before .before .before .before .if2 .left)) in let there = rw (c .before .before .before .before .before .before .span .ensures, c .before .before .before .before .before .before .before .address .ensures) at (sym (c .before .before .before .before .before .is-present .ensures) ∙ not-false (c .before .before .before .before .before .is-present .result) (c .before .before .before .before .if3 .left)) in let free = rw (c .before .before .before .stored .ensures, c .before .before .before .before .before .before .before .address .ensures) at (sym (c .before .before .any-protected .ensures) ∙ c .before .if4 .left) in rw (← c .before .before .before .before .before .before .before .before .before .before .halts .ensures, c .before .before .before .before .before .before .before .before .before .if1 .left, room, there, free) (c .effect .ensures)
+returns-5 c =
+    let a = c .before .before .before .before .before .before .before .before .before .before .before .before .before .args in
+    let room = lt-ltb (a .used) (a .journal / 4) (leb-false (a .journal / 4) (a .used) (c .before .before .before .before .before .before .before .before .if2 .left)) in
+    let there = rw (c .before .before .before .before .before .before .span .ensures, c .before .before .before .before .before .before .before .address .ensures) at (sym (c .before .before .before .before .before .is-present .ensures) ∙ not-false (c .before .before .before .before .before .is-present .result) (c .before .before .before .before .if3 .left)) in
+    let free = rw (c .before .before .before .stored .ensures, c .before .before .before .before .before .before .before .address .ensures) at (sym (c .before .before .any-protected .ensures) ∙ c .before .if4 .left) in
+    rw (
+      ← c .before .before .before .before .before .before .before .before .before .before .halts .ensures,
+      c .before .before .before .before .before .before .before .before .before .if1 .left,
+      room,
+      there,
+      free,
+    )
+    (c .effect .ensures)
 
 pub judge-spec : {M : Type 1} → statement M
 judge-spec =

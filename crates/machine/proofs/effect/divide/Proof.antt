@@ -29,7 +29,14 @@ enum-told-3 : tie.Need-enum-told-3
 enum-told-3 c = search needs
 
 returns : tie.Need-returns
-returns c = rw (c .granted .ensures, c .before .float-change .ensures, ← c .before .before .before .before .before .before .before .float-operand .ensures, ← c .before .before .before .before .before .divide .ensures, c .before .before .before .q .given .1)
+returns c =
+    rw (
+      c .granted .ensures,
+      c .before .float-change .ensures,
+      ← c .before .before .before .before .before .before .before .float-operand .ensures,
+      ← c .before .before .before .before .before .divide .ensures,
+      c .before .before .before .q .given .1,
+    )
 
 returns-2 : tie.Need-returns-2
 returns-2 c = rw (← c .before .before .before .before .float-operand .ensures, ← c .before .before .divide .ensures, c .enum-told .given .1)

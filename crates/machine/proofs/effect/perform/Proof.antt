@@ -124,7 +124,13 @@ returns-6 c = rw (c .before .enum-told6 .given .1, c .divide .ensures)
 
 returns-7 : tie.Need-returns-7
 unfolding performed
-returns-7 c = rw (c .before .before .before .enum-told7 .given .1, c .granted2 .ensures, c .before .storage-change .ensures, c .before .before .float-operand .ensures)
+returns-7 c =
+    rw (
+      c .before .before .before .enum-told7 .given .1,
+      c .granted2 .ensures,
+      c .before .storage-change .ensures,
+      c .before .before .float-operand .ensures,
+    )
 
 returns-8 : tie.Need-returns-8
 unfolding performed

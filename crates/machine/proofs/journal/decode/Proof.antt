@@ -14,7 +14,8 @@ condition-formed-requires c κs = search needs
 
 returns : tie.Need-returns
 unfolding decoded
-returns c = rw (← c .before .before .unpack .ensures, ← c .before .condition-formed .ensures, not-true (c .before .condition-formed .result) (c .if1 .taken))
+returns c =
+    rw (← c .before .before .unpack .ensures, ← c .before .condition-formed .ensures, not-true (c .before .condition-formed .result) (c .if1 .taken))
 
 decode-change-requires : tie.Need-decode-change-requires
 decode-change-requires c κs = search needs
@@ -27,11 +28,25 @@ enum-known-d c = search needs
 
 returns-2 : tie.Need-returns-2
 unfolding decoded
-returns-2 c = rw (← c .before .before .before .before .before .before .unpack .ensures, ← c .before .before .before .before .before .condition-formed .ensures, not-false (c .before .before .before .before .before .condition-formed .result) (c .before .before .before .before .if1 .left), ← c .before .before .decode-change .ensures, c .enum-told .given .1)
+returns-2 c =
+    rw (
+      ← c .before .before .before .before .before .before .unpack .ensures,
+      ← c .before .before .before .before .before .condition-formed .ensures,
+      not-false (c .before .before .before .before .before .condition-formed .result) (c .before .before .before .before .if1 .left),
+      ← c .before .before .decode-change .ensures,
+      c .enum-told .given .1,
+    )
 
 returns-3 : tie.Need-returns-3
 unfolding decoded
-returns-3 c = rw (← c .before .before .before .before .before .before .before .unpack .ensures, ← c .before .before .before .before .before .before .condition-formed .ensures, not-false (c .before .before .before .before .before .before .condition-formed .result) (c .before .before .before .before .before .if1 .left), ← c .before .before .before .decode-change .ensures, c .before .d .given .1)
+returns-3 c =
+    rw (
+      ← c .before .before .before .before .before .before .before .unpack .ensures,
+      ← c .before .before .before .before .before .before .condition-formed .ensures,
+      not-false (c .before .before .before .before .before .before .condition-formed .result) (c .before .before .before .before .before .if1 .left),
+      ← c .before .before .before .decode-change .ensures,
+      c .before .d .given .1,
+    )
 
 pub decode-spec : {M : Type 1} → statement M
 decode-spec =

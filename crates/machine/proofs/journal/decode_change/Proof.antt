@@ -47,7 +47,16 @@ returns-6 c = rw (c .match .keys6)
 
 returns-7 : tie.Need-returns-7
 unfolding changeFrom
-returns-7 c = let r = c .match .rest in rw (ne-eqb _ 0 (r .0 .0 .0 .0 .0 .1), ne-eqb _ 1 (r .0 .0 .0 .0 .1), ne-eqb _ 2 (r .0 .0 .0 .1), ne-eqb _ 3 (r .0 .0 .1), ne-eqb _ 4 (r .0 .1), ne-eqb _ 5 (r .1))
+returns-7 c =
+    let r = c .match .rest in
+    rw (
+      ne-eqb _ 0 (r .0 .0 .0 .0 .0 .1),
+      ne-eqb _ 1 (r .0 .0 .0 .0 .1),
+      ne-eqb _ 2 (r .0 .0 .0 .1),
+      ne-eqb _ 3 (r .0 .0 .1),
+      ne-eqb _ 4 (r .0 .1),
+      ne-eqb _ 5 (r .1),
+    )
 
 pub decode-change-spec : {M : Type 1} → statement M
 decode-change-spec =

@@ -17,7 +17,12 @@ same-length : tie.Need-same-length
 same-length c = search needs
 
 returns : tie.Need-returns
-returns c = rw (c .before .before .write-record .ensures, c .before .before .before .encode .ensures, c .before .before .before .before .before .old .ensures (c .before .before .before .before .before .before .before .before .args .status))
+returns c =
+    rw (
+      c .before .before .write-record .ensures,
+      c .before .before .before .encode .ensures,
+      c .before .before .before .before .before .old .ensures (c .before .before .before .before .before .before .before .before .args .status),
+    )
 
 pub keep-spec : {M : Type 1} → statement M
 keep-spec =

@@ -35,7 +35,8 @@ enum-told-4 : tie.Need-enum-told-4
 enum-told-4 c = search needs
 
 storage-operand-requires : tie.Need-storage-operand-requires
-storage-operand-requires c κs = reach _ _ _ (rw (c .enum-told4 .given .1) at (c .before .before .before .before .pre .2)) (some (c .before .before .before .before .args .width))
+storage-operand-requires c κs =
+    reach _ _ _ (rw (c .enum-told4 .given .1) at (c .before .before .before .before .pre .2)) (some (c .before .before .before .before .args .width))
 
 returns : tie.Need-returns
 unfolding secondOperand

@@ -17,15 +17,33 @@ enum-known-found c = search needs
 
 returns : tie.Need-returns
 unfolding legalOf withinLimits
-returns c = rw (← c .before .before .before .before .before .before .look-up .ensures, c .before .before .before .before .found .given .1, lt-leb _ _ (c .if1 .taken))
+returns c =
+    rw (
+      ← c .before .before .before .before .before .before .look-up .ensures,
+      c .before .before .before .before .found .given .1,
+      lt-leb _ _ (c .if1 .taken),
+    )
 
 returns-2 : tie.Need-returns-2
 unfolding legalOf withinLimits
-returns-2 c = rw (← c .before .before .before .before .before .before .before .before .before .look-up .ensures, c .before .before .before .before .before .before .before .found .given .1, le-leb _ _ (c .before .before .before .if1 .left), lt-leb _ _ (c .if2 .taken))
+returns-2 c =
+    rw (
+      ← c .before .before .before .before .before .before .before .before .before .look-up .ensures,
+      c .before .before .before .before .before .before .before .found .given .1,
+      le-leb _ _ (c .before .before .before .if1 .left),
+      lt-leb _ _ (c .if2 .taken),
+    )
 
 returns-3 : tie.Need-returns-3
 unfolding legalOf withinLimits
-returns-3 c = rw (← c .before .before .before .before .before .before .before .before .before .before .before .before .look-up .ensures, c .before .before .before .before .before .before .before .before .before .before .found .given .1, le-leb _ _ (c .before .before .before .before .before .before .if1 .left), le-leb _ _ (c .before .before .before .if2 .left), lt-leb _ _ (c .if3 .taken))
+returns-3 c =
+    rw (
+      ← c .before .before .before .before .before .before .before .before .before .before .before .before .look-up .ensures,
+      c .before .before .before .before .before .before .before .before .before .before .found .given .1,
+      le-leb _ _ (c .before .before .before .before .before .before .if1 .left),
+      le-leb _ _ (c .before .before .before .if2 .left),
+      lt-leb _ _ (c .if3 .taken),
+    )
 
 returns-4 : tie.Need-returns-4
 unfolding legalOf withinLimits
@@ -33,7 +51,14 @@ returns-4 c = rw (← c .before .before .look-up .ensures, c .enum-told .given .
 
 returns-5 : tie.Need-returns-5
 unfolding legalOf withinLimits
-returns-5 c = rw (← c .before .before .before .before .before .before .before .before .before .before .before .before .look-up .ensures, c .before .before .before .before .before .before .before .before .before .before .found .given .1, le-leb _ _ (c .before .before .before .before .before .before .if1 .left), le-leb _ _ (c .before .before .before .if2 .left), le-leb _ _ (c .if3 .left))
+returns-5 c =
+    rw (
+      ← c .before .before .before .before .before .before .before .before .before .before .before .before .look-up .ensures,
+      c .before .before .before .before .before .before .before .before .before .before .found .given .1,
+      le-leb _ _ (c .before .before .before .before .before .before .if1 .left),
+      le-leb _ _ (c .before .before .before .if2 .left),
+      le-leb _ _ (c .if3 .left),
+    )
 
 pub legal-spec : {M : Type 1} → statement M
 legal-spec =

@@ -40,34 +40,43 @@ same-length-2 : tie.Need-same-length-2 Inv-loop μ-loop
 same-length-2 c = c .before .before .before .before .before .before .before .loop .inv .journal
 
 returns-2 : tie.Need-returns-2 Inv-loop μ-loop
-returns-2 c = sym (run-steps _ _ _ _ (c .before .before .before .before .before .before .before .before .if1 .left) ∙ under-stop _ _ _ _ _ _ (c .before .before .before .before .before .before .before .loop .inv) _ (c .before .before .before .before .before .before .loop-test .taken) (sym (c .before .before .before .decide .ensures) ∙ ap says (c .before .v .given .1)))
+returns-2 c =
+    sym (run-steps _ _ _ _ (c .before .before .before .before .before .before .before .before .if1 .left) ∙ under-stop _ _ _ _ _ _ (c .before .before .before .before .before .before .before .loop .inv) _ (c .before .before .before .before .before .before .loop-test .taken) (sym (c .before .before .before .decide .ensures) ∙ ap says (c .before .v .given .1)))
 
 enum-known-v-2 : tie.Need-enum-known-v-2 Inv-loop μ-loop
 enum-known-v-2 c = search needs
 
 keep-requires : tie.Need-keep-requires Inv-loop μ-loop
-keep-requires c κs = committable _ _ _ _ _ _ _ (sym (c .before .before .before .before .before .before .before .before .before .before .decide .ensures) ∙ ap says (c .before .before .before .before .before .before .before .before .v2 .given .1))
+keep-requires c κs =
+    committable _ _ _ _ _ _ _ (sym (c .before .before .before .before .before .before .before .before .before .before .decide .ensures) ∙ ap says (c .before .before .before .before .before .before .before .before .v2 .given .1))
 
 store-requires : tie.Need-store-requires Inv-loop μ-loop
-store-requires c κs = committable _ _ _ _ _ _ _ (sym (c .before .before .before .before .before .before .before .before .before .before .before .before .before .before .decide .ensures) ∙ ap says (c .before .before .before .before .before .before .before .before .before .before .before .before .v2 .given .1)) .there
+store-requires c κs =
+    committable _ _ _ _ _ _ _ (sym (c .before .before .before .before .before .before .before .before .before .before .before .before .before .before .decide .ensures) ∙ ap says (c .before .before .before .before .before .before .before .before .before .before .before .before .v2 .given .1)) .there
 
 put-float-requires : tie.Need-put-float-requires Inv-loop μ-loop
-put-float-requires c κs = committable _ _ _ _ _ _ _ (sym (c .before .before .before .before .before .before .before .before .before .before .before .before .before .before .before .before .before .before .decide .ensures) ∙ ap says (c .before .before .before .before .before .before .before .before .before .before .before .before .before .before .before .before .v2 .given .1)) .register
+put-float-requires c κs =
+    committable _ _ _ _ _ _ _ (sym (c .before .before .before .before .before .before .before .before .before .before .before .before .before .before .before .before .before .before .decide .ensures) ∙ ap says (c .before .before .before .before .before .before .before .before .before .before .before .before .before .before .before .before .v2 .given .1)) .register
 
 put-general-requires : tie.Need-put-general-requires Inv-loop μ-loop
-put-general-requires c κs = committable _ _ _ _ _ _ _ (sym (c .before .before .before .before .before .before .before .before .before .before .before .before .before .before .before .before .before .before .before .before .decide .ensures) ∙ ap says (c .before .before .before .before .before .before .before .before .before .before .before .before .before .before .before .before .before .before .v2 .given .1)) .register
+put-general-requires c κs =
+    committable _ _ _ _ _ _ _ (sym (c .before .before .before .before .before .before .before .before .before .before .before .before .before .before .before .before .before .before .before .before .decide .ensures) ∙ ap says (c .before .before .before .before .before .before .before .before .before .before .before .before .before .before .before .before .before .before .v2 .given .1)) .register
 
 add-s : tie.Need-add-s Inv-loop μ-loop
-add-s c = omega (arith, committable _ _ _ _ _ _ _ (sym (c .before .before .before .before .before .before .before .before .before .before .before .before .before .before .before .before .before .before .before .before .before .before .before .before .decide .ensures) ∙ ap says (c .before .before .before .before .before .before .before .before .before .before .before .before .before .before .before .before .before .before .before .before .before .before .v2 .given .1)) .count)
+add-s c =
+    omega (arith, committable _ _ _ _ _ _ _ (sym (c .before .before .before .before .before .before .before .before .before .before .before .before .before .before .before .before .before .before .before .before .before .before .before .before .decide .ensures) ∙ ap says (c .before .before .before .before .before .before .before .before .before .before .before .before .before .before .before .before .before .before .before .before .before .before .v2 .given .1)) .count)
 
 add-count : tie.Need-add-count Inv-loop μ-loop
-add-count c = omega (arith, c .before .before .before .before .before .before .before .before .before .before .before .before .before .before .before .before .before .before .before .before .before .before .before .before .before .before .before .loop-test .taken, c .before .before .before .before .before .before .before .before .before .before .before .before .before .before .before .before .before .before .before .before .before .before .before .before .before .before .before .before .before .before .before .before .before .before .fits .limit .fits)
+add-count c =
+    omega (arith, c .before .before .before .before .before .before .before .before .before .before .before .before .before .before .before .before .before .before .before .before .before .before .before .before .before .before .before .loop-test .taken, c .before .before .before .before .before .before .before .before .before .before .before .before .before .before .before .before .before .before .before .before .before .before .before .before .before .before .before .before .before .before .before .before .before .before .fits .limit .fits)
 
 loop-less : tie.Need-loop-less Inv-loop μ-loop
-loop-less c = omega (arith, c .before .before .before .before .before .before .before .before .before .before .before .before .before .before .before .before .before .before .before .before .before .before .before .before .before .before .before .loop-test .taken)
+loop-less c =
+    omega (arith, c .before .before .before .before .before .before .before .before .before .before .before .before .before .before .before .before .before .before .before .before .before .before .before .before .before .before .before .loop-test .taken)
 
 loop-again : tie.Need-loop-again Inv-loop μ-loop
-loop-again c = under-on _ _ _ _ _ _ (c .before .before .before .before .before .before .before .before .before .before .before .before .before .before .before .before .before .before .before .before .before .before .before .before .before .before .before .before .loop .inv) _ _ (c .before .before .before .before .before .before .before .before .before .before .before .before .before .before .before .before .before .before .before .before .before .before .before .before .before .before .before .loop-test .taken) (sym (c .before .before .before .before .before .before .before .before .before .before .before .before .before .before .before .before .before .before .before .before .before .before .before .before .decide .ensures) ∙ ap says (c .before .before .before .before .before .before .before .before .before .before .before .before .before .before .before .before .before .before .before .before .before .before .v2 .given .1)) (rw (c .before .before .before .put-general .ensures, c .before .before .before .before .before .put-float .ensures, c .before .before .before .before .before .before .before .before .before .store .ensures, c .before .before .before .before .before .before .before .before .before .before .before .before .before .keep .ensures)) (c .before .before .before .before .before .before .before .before .before .store .kept .1 .0) (c .before .before .before .before .before .before .before .before .before .before .before .before .before .keep .kept .1 .1 .1 .1 .1 .1 .0)
+loop-again c =
+    under-on _ _ _ _ _ _ (c .before .before .before .before .before .before .before .before .before .before .before .before .before .before .before .before .before .before .before .before .before .before .before .before .before .before .before .before .loop .inv) _ _ (c .before .before .before .before .before .before .before .before .before .before .before .before .before .before .before .before .before .before .before .before .before .before .before .before .before .before .before .loop-test .taken) (sym (c .before .before .before .before .before .before .before .before .before .before .before .before .before .before .before .before .before .before .before .before .before .before .before .before .decide .ensures) ∙ ap says (c .before .before .before .before .before .before .before .before .before .before .before .before .before .before .before .before .before .before .before .before .before .before .v2 .given .1)) (rw (c .before .before .before .put-general .ensures, c .before .before .before .before .before .put-float .ensures, c .before .before .before .before .before .before .before .before .before .store .ensures, c .before .before .before .before .before .before .before .before .before .before .before .before .before .keep .ensures)) (c .before .before .before .before .before .before .before .before .before .store .kept .1 .0) (c .before .before .before .before .before .before .before .before .before .before .before .before .before .keep .kept .1 .1 .1 .1 .1 .1 .0)
 
 same-length-3 : tie.Need-same-length-3 Inv-loop μ-loop
 same-length-3 c = c .before .loop .inv .memory

@@ -15,15 +15,28 @@ returns c = rw (← c .before .is-placed .ensures, not-true (c .before .is-place
 
 is-guarded-requires : tie.Need-is-guarded-requires
 unfolding allowed
-is-guarded-requires c κs = rw (← c .before .before .before .pre, ← c .before .is-placed .ensures) (not-false (c .before .is-placed .result) (c .if1 .left))
+is-guarded-requires c κs =
+    rw (← c .before .before .before .pre, ← c .before .is-placed .ensures) (not-false (c .before .is-placed .result) (c .if1 .left))
 
 returns-2 : tie.Need-returns-2
 unfolding allowed
-returns-2 c = rw (← c .before .before .before .is-placed .ensures, not-false (c .before .before .before .is-placed .result) (c .before .before .if1 .left), ← c .before .is-guarded .ensures, c .if2 .taken)
+returns-2 c =
+    rw (
+      ← c .before .before .before .is-placed .ensures,
+      not-false (c .before .before .before .is-placed .result) (c .before .before .if1 .left),
+      ← c .before .is-guarded .ensures,
+      c .if2 .taken,
+    )
 
 returns-3 : tie.Need-returns-3
 unfolding allowed
-returns-3 c = rw (← c .before .before .before .is-placed .ensures, not-false (c .before .before .before .is-placed .result) (c .before .before .if1 .left), ← c .before .is-guarded .ensures, c .if2 .left)
+returns-3 c =
+    rw (
+      ← c .before .before .before .is-placed .ensures,
+      not-false (c .before .before .before .is-placed .result) (c .before .before .if1 .left),
+      ← c .before .is-guarded .ensures,
+      c .if2 .left,
+    )
 
 pub allow-spec : {M : Type 1} → statement M
 allow-spec =

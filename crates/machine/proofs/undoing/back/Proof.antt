@@ -18,13 +18,19 @@ enum-known-v-2 : tie.Need-enum-known-v-2
 enum-known-v-2 c = search needs
 
 store-requires : tie.Need-store-requires
-store-requires c κs = let gives = sym (c .before .before .before .before .recall .ensures) ∙ ap says (c .before .before .v2 .given .1) in returning-gives _ _ _ _ _ gives .there
+store-requires c κs =
+    let gives = sym (c .before .before .before .before .recall .ensures) ∙ ap says (c .before .before .v2 .given .1) in
+    returning-gives _ _ _ _ _ gives .there
 
 registers-after-requires : tie.Need-registers-after-requires
-registers-after-requires c κs = let gives = sym (c .before .before .before .before .before .before .before .recall .ensures) ∙ ap says (c .before .before .before .before .before .v2 .given .1) in returning-gives _ _ _ _ _ gives .registers
+registers-after-requires c κs =
+    let gives = sym (c .before .before .before .before .before .before .before .recall .ensures) ∙ ap says (c .before .before .before .before .before .v2 .given .1) in
+    returning-gives _ _ _ _ _ gives .registers
 
 sub-t17 : tie.Need-sub-t17
-sub-t17 c = let gives = sym (c .before .before .before .before .before .before .before .before .before .recall .ensures) ∙ ap says (c .before .before .before .before .before .before .before .v2 .given .1) in returning-gives _ _ _ _ _ gives .used
+sub-t17 c =
+    let gives = sym (c .before .before .before .before .before .before .before .before .before .recall .ensures) ∙ ap says (c .before .before .before .before .before .before .before .v2 .given .1) in
+    returning-gives _ _ _ _ _ gives .used
 
 same-length : tie.Need-same-length
 same-length c = search needs
@@ -41,7 +47,13 @@ same-length-3 c = search needs
 
 returns-2 : tie.Need-returns-2
 unfolding backed
-returns-2 c = rw (← c .before .before .before .before .before .before .before .before .before .recall .ensures, c .before .before .before .before .before .before .before .v2 .given .1, c .before .registers-after .ensures, c .before .before .before .before .store .ensures)
+returns-2 c =
+    rw (
+      ← c .before .before .before .before .before .before .before .before .before .recall .ensures,
+      c .before .before .before .before .before .before .before .v2 .given .1,
+      c .before .registers-after .ensures,
+      c .before .before .before .before .store .ensures,
+    )
 
 pub back-spec : {M : Type 1} → statement M
 back-spec =
