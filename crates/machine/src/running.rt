@@ -23,7 +23,7 @@ pub struct Ran {
 // Steps to the limit, which is looked at first, or to a stop. Each step makes checks 1 to 3; at a limit
 // of 0 they are made here.
 pub fn run(
-    mut s: State,
+    s: State,
     deck: &[u16],
     memory: &mut [u16],
     protect: &[u8],
@@ -47,13 +47,15 @@ pub fn run(
             ),
         };
     }
+    let mut registers = s.registers;
+    let mut used = s.used;
     let mut count: u32 = 0;
     while count < limit {
-        let v = decide(s.registers, s.used, deck, memory, protect, journal.len());
+        let v = decide(registers, used, deck, memory, protect, journal.len());
         match v {
             Verdict::Refused(stop) => {
                 return Ran {
-                    state: s,
+                    state: State { registers, used },
                     count,
                     stop,
                 };
@@ -61,29 +63,27 @@ pub fn run(
             Verdict::Granted(e) => {
                 let change = e.change;
                 let status = e.status;
-                let before = s.registers.status;
+                let before = registers.status;
                 keep(
-                    &s.registers.float,
-                    &s.registers.general,
+                    &registers.float,
+                    &registers.general,
                     before,
-                    s.used,
+                    used,
                     e,
                     memory,
                     journal,
                 );
                 store(change, memory);
-                put_float(change, &mut s.registers.float);
-                put_general(change, &mut s.registers.general);
-                s.registers.status.condition = status.condition;
-                s.registers.status.mask = status.mask;
-                s.registers.status.pointer = status.pointer;
-                s.used += 1;
+                put_float(change, &mut registers.float);
+                put_general(change, &mut registers.general);
+                registers.status = status;
+                used += 1;
             }
         }
         count += 1;
     }
     Ran {
-        state: s,
+        state: State { registers, used },
         count,
         stop: Stop::Taken,
     }

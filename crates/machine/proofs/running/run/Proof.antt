@@ -4,7 +4,7 @@ use borrow.Author.Needs.{needs}
 use native.Mathlib.Omega.{arith}
 use mathlib.Core.Path.{sym, ap, _∙_}
 use Prim.Native.Nat.{_-_}
-use Rattle.machine.specs.Machine.{machine}
+use Rattle.machine.specs.Machine.{machine, state}
 use Rattle.machine.specs.Says.{says}
 use Rattle.machine.proofs.Decided.{committable}
 use Rattle.machine.proofs.Runs.{Under, run-steps, run-none, under-start, under-on, under-stop, under-end}
@@ -12,17 +12,17 @@ use Rattle.machine.proofs.running.run.Statement.{statement}
 use Rattle.machine.proofs.running.run.Tie as tie
 
 abbrev Inv-loop : tie.InvT-loop
-Inv-loop deck memory₀ protect journal₀ limit s₀ count₀ memory journal s count =
-    Under deck protect limit (machine s₀ memory₀ journal₀) (machine s memory journal) count
+Inv-loop deck memory₀ protect journal₀ limit registers₀ used₀ count₀ memory journal registers used count =
+    Under deck protect limit (machine (state registers₀ used₀) memory₀ journal₀) (machine (state registers used) memory journal) count
 
 abbrev μ-loop : tie.MeasureT-loop
-μ-loop deck memory₀ protect journal₀ limit s₀ count₀ memory journal s count = limit - count
+μ-loop deck memory₀ protect journal₀ limit registers₀ used₀ count₀ memory journal registers used count = limit - count
 
 entry-requires : tie.Need-entry-requires Inv-loop μ-loop
 entry-requires c κs = tt
 
 returns : tie.Need-returns Inv-loop μ-loop
-returns c = rw (c .entry .ensures) (sym (run-none _ _ _ _ (c .before .before .if1 .taken)))
+returns c = rw (c .entry .ensures) (sym (run-none _ _ _ _ (c .before .if1 .taken)))
 
 loop-holds : tie.Need-loop-holds Inv-loop μ-loop
 loop-holds c = under-start _ _ _ _
@@ -34,14 +34,14 @@ enum-known-v : tie.Need-enum-known-v Inv-loop μ-loop
 enum-known-v c = search needs
 
 same-length : tie.Need-same-length Inv-loop μ-loop
-same-length c = c .before .before .before .before .before .before .before .loop .inv .memory
+same-length c = c .before .before .before .before .before .before .loop .inv .memory
 
 same-length-2 : tie.Need-same-length-2 Inv-loop μ-loop
-same-length-2 c = c .before .before .before .before .before .before .before .loop .inv .journal
+same-length-2 c = c .before .before .before .before .before .before .loop .inv .journal
 
 returns-2 : tie.Need-returns-2 Inv-loop μ-loop
 returns-2 c =
-    sym (run-steps _ _ _ _ (c .before .before .before .before .before .before .before .before .if1 .left) ∙ under-stop _ _ _ _ _ _ (c .before .before .before .before .before .before .before .loop .inv) _ (c .before .before .before .before .before .before .loop-test .taken) (sym (c .before .before .before .decide .ensures) ∙ ap says (c .before .v .given .1)))
+    sym (run-steps _ _ _ _ (c .before .before .before .before .before .before .before .before .if1 .left) ∙ under-stop _ _ _ _ _ _ (c .before .before .before .before .before .before .loop .inv) _ (c .before .before .before .before .before .loop-test .taken) (sym (c .before .before .before .decide .ensures) ∙ ap says (c .before .v .given .1)))
 
 enum-known-v-2 : tie.Need-enum-known-v-2 Inv-loop μ-loop
 enum-known-v-2 c = search needs
@@ -62,21 +62,21 @@ put-general-requires : tie.Need-put-general-requires Inv-loop μ-loop
 put-general-requires c κs =
     committable _ _ _ _ _ _ _ (sym (c .before .before .before .before .before .before .before .before .before .before .before .before .before .before .before .before .before .before .before .before .decide .ensures) ∙ ap says (c .before .before .before .before .before .before .before .before .before .before .before .before .before .before .before .before .before .before .v2 .given .1)) .register
 
-add-s : tie.Need-add-s Inv-loop μ-loop
-add-s c =
-    omega (arith, committable _ _ _ _ _ _ _ (sym (c .before .before .before .before .before .before .before .before .before .before .before .before .before .before .before .before .before .before .before .before .before .before .before .before .decide .ensures) ∙ ap says (c .before .before .before .before .before .before .before .before .before .before .before .before .before .before .before .before .before .before .before .before .before .before .v2 .given .1)) .count)
+add-used : tie.Need-add-used Inv-loop μ-loop
+add-used c =
+    omega (arith, committable _ _ _ _ _ _ _ (sym (c .before .before .before .before .before .before .before .before .before .before .before .before .before .before .before .before .before .before .before .before .before .decide .ensures) ∙ ap says (c .before .before .before .before .before .before .before .before .before .before .before .before .before .before .before .before .before .before .before .v2 .given .1)) .count)
 
 add-count : tie.Need-add-count Inv-loop μ-loop
 add-count c =
-    omega (arith, c .before .before .before .before .before .before .before .before .before .before .before .before .before .before .before .before .before .before .before .before .before .before .before .before .before .before .before .loop-test .taken, c .before .before .before .before .before .before .before .before .before .before .before .before .before .before .before .before .before .before .before .before .before .before .before .before .before .before .before .before .before .before .before .before .before .before .fits .limit .fits)
+    omega (arith, c .before .before .before .before .before .before .before .before .before .before .before .before .before .before .before .before .before .before .before .before .before .before .before .loop-test .taken, c .before .before .before .before .before .before .before .before .before .before .before .before .before .before .before .before .before .before .before .before .before .before .before .before .before .before .before .before .before .before .before .fits .limit .fits)
 
 loop-less : tie.Need-loop-less Inv-loop μ-loop
 loop-less c =
-    omega (arith, c .before .before .before .before .before .before .before .before .before .before .before .before .before .before .before .before .before .before .before .before .before .before .before .before .before .before .before .loop-test .taken)
+    omega (arith, c .before .before .before .before .before .before .before .before .before .before .before .before .before .before .before .before .before .before .before .before .before .before .before .loop-test .taken)
 
 loop-again : tie.Need-loop-again Inv-loop μ-loop
 loop-again c =
-    under-on _ _ _ _ _ _ (c .before .before .before .before .before .before .before .before .before .before .before .before .before .before .before .before .before .before .before .before .before .before .before .before .before .before .before .before .loop .inv) _ _ (c .before .before .before .before .before .before .before .before .before .before .before .before .before .before .before .before .before .before .before .before .before .before .before .before .before .before .before .loop-test .taken) (sym (c .before .before .before .before .before .before .before .before .before .before .before .before .before .before .before .before .before .before .before .before .before .before .before .before .decide .ensures) ∙ ap says (c .before .before .before .before .before .before .before .before .before .before .before .before .before .before .before .before .before .before .before .before .before .before .v2 .given .1)) (rw (c .before .before .before .put-general .ensures, c .before .before .before .before .before .put-float .ensures, c .before .before .before .before .before .before .before .before .before .store .ensures, c .before .before .before .before .before .before .before .before .before .before .before .before .before .keep .ensures)) (c .before .before .before .before .before .before .before .before .before .store .kept .1 .0) (c .before .before .before .before .before .before .before .before .before .before .before .before .before .keep .kept .1 .1 .1 .1 .1 .1 .0)
+    under-on _ _ _ _ _ _ (c .before .before .before .before .before .before .before .before .before .before .before .before .before .before .before .before .before .before .before .before .before .before .before .before .loop .inv) _ _ (c .before .before .before .before .before .before .before .before .before .before .before .before .before .before .before .before .before .before .before .before .before .before .before .loop-test .taken) (sym (c .before .before .before .before .before .before .before .before .before .before .before .before .before .before .before .before .before .before .before .before .before .decide .ensures) ∙ ap says (c .before .before .before .before .before .before .before .before .before .before .before .before .before .before .before .before .before .before .before .v2 .given .1)) (rw (c .put-general .ensures, c .before .before .put-float .ensures, c .before .before .before .before .before .before .store .ensures, c .before .before .before .before .before .before .before .before .before .before .keep .ensures)) (c .before .before .before .before .before .before .store .kept .1 .0) (c .before .before .before .before .before .before .before .before .before .before .keep .kept .1 .1 .1 .1 .1 .1 .0)
 
 same-length-3 : tie.Need-same-length-3 Inv-loop μ-loop
 same-length-3 c = c .before .loop .inv .memory
@@ -85,7 +85,7 @@ same-length-4 : tie.Need-same-length-4 Inv-loop μ-loop
 same-length-4 c = c .before .loop .inv .journal
 
 returns-3 : tie.Need-returns-3 Inv-loop μ-loop
-returns-3 c = sym (run-steps _ _ _ _ (c .before .before .if1 .left) ∙ under-end _ _ _ _ _ _ (c .before .loop .inv) (c .loop-test .left))
+returns-3 c = sym (run-steps _ _ _ _ (c .before .before .before .if1 .left) ∙ under-end _ _ _ _ _ _ (c .before .loop .inv) (c .loop-test .left))
 
 pub run-spec : {M : Type 1} → statement M
 run-spec =
@@ -106,7 +106,7 @@ run-spec =
     store-requires
     put-float-requires
     put-general-requires
-    add-s
+    add-used
     add-count
     loop-less
     loop-again
