@@ -3,38 +3,39 @@
 // A case is a line `LLLLL CCCCC`, the lengths of the text and of the calls, then the text, the calls
 // and a line feed. For each call a line is written with its answer and every register, and after the
 // calls of a case one line with the first 64 halfwords of memory.
-mod call;
-mod line;
-
-use call::Done;
 use decktext::Reading;
-ghost use Prim.Native.Nat.{_≤_};
-ghost use lib.ListN.{length};
+use trial::Input;
+use trial::Number;
+use trial::Pointer;
 
 fn complain() -> bool {
     io::write_all(libc::STDERR_FILENO, b"calls: a case is not of the form\n");
     false
 }
 
-// The number of five digits from `at` on, or 100,000 where they are none.
-fn number_at(head: &[u8; 12], at: usize) -> usize
-    requires { ⌜ at ≤ 6 ⌝ }
-    ensures { λ r. ⌜ r ≤ 100000 ⌝ }
-{
-    let mut n: usize = 0;
-    let mut i = 0;
-    while i < 5 {
-        let b = head[at + i];
-        if b < b'0' {
-            return 100000;
-        }
-        if b'9' < b {
-            return 100000;
-        }
-        n = (n * 10 + (b - b'0') as usize) % 100000;
-        i += 1;
+// The calls on the deck of `count` orders, from a fresh state; then the first 64 halfwords of memory.
+fn run_deck(
+    calls: &[u8],
+    cells: &[u16],
+    count: u32,
+    memory: &mut [u16],
+    protect: &[u8],
+    journal: &mut [u32],
+) -> bool {
+    let n = count as usize * 4;
+    if cells.len() < n {
+        return false;
     }
-    n
+    let listed = trial::list(
+        calls,
+        Pointer::First,
+        machine::fresh(),
+        &cells[..n],
+        memory,
+        protect,
+        journal,
+    );
+    listed.written && trial::write(trial::halfwords(memory, 64))
 }
 
 // Makes the calls on the desk's buffers and writes what each answers.
@@ -47,50 +48,50 @@ fn run_case(text: &[u8], calls: &[u8]) -> bool {
     let Reading::Taken(count) = reading else {
         return complain();
     };
-    call::all(calls, &cells, count, &mut memory, &protect, &mut journal)
+    run_deck(calls, &cells, count, &mut memory, &protect, &mut journal)
 }
 
-// Fills a part of the input's bytes, or says that they are missing.
-fn is_read(space: &mut [u8]) -> bool {
-    let got = io::read_full(libc::STDIN_FILENO, space);
-    got == space.len()
-}
-
-fn one_case() -> bool {
-    let mut head = [0u8; 12];
-    let got = io::read_full(libc::STDIN_FILENO, &mut head);
-    if got == 0 {
-        return false;
-    }
-    let n = number_at(&head, 0);
-    let k = number_at(&head, 6);
-    if n == 100000 {
+// Reads the text of n bytes and the k calls with their line feed, and makes the calls.
+fn read_and_run(n: usize, text: &mut [u8], k: usize, calls: &mut [u8]) -> bool {
+    if text.len() < n {
         return complain();
     }
-    if k == 100000 {
+    if calls.len() < k {
         return complain();
     }
-    let mut text = [0u8; 100000];
-    let mut calls = [0u8; 100000];
-    let mut end = [0u8; 1];
-    read_and_run(n, &mut text, k, &mut calls, &mut end)
-}
-
-fn read_and_run(n: usize, text: &mut [u8], k: usize, calls: &mut [u8], end: &mut [u8]) -> bool
-    requires { ⌜ (n ≤ length (now text)) × (k ≤ length (now calls)) ⌝ }
-{
     let t = &mut text[..n];
     let c = &mut calls[..k];
-    if !is_read(t) {
+    let Input::Whole = trial::read_bytes(t) else {
         return complain();
-    }
-    if !is_read(c) {
+    };
+    let Input::Whole = trial::read_line(c) else {
         return complain();
-    }
-    if !is_read(end) {
-        return complain();
-    }
+    };
     run_case(t, c)
+}
+
+// One case, and whether to go on.
+fn one_case() -> bool {
+    let mut head = [0u8; 11];
+    let input = trial::read_line(&mut head);
+    match input {
+        Input::End => {
+            return false;
+        }
+        Input::Malformed => {
+            return complain();
+        }
+        Input::Whole => {}
+    }
+    let Number::Value(n) = trial::number_at(10, &head, 0, 5) else {
+        return complain();
+    };
+    let Number::Value(k) = trial::number_at(10, &head, 6, 5) else {
+        return complain();
+    };
+    let mut text = [0u8; 100000];
+    let mut calls = [0u8; 100000];
+    read_and_run(n as usize, &mut text, k as usize, &mut calls)
 }
 
 // A proved loop has to end: the turns count down from a number that no run uses up.

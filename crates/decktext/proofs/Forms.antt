@@ -170,84 +170,73 @@ faulty-line halfword p line l h = rw (halfword-parsed (valuesOf line), h)
 
 -- ---- what a line gives fits
 
+-- the values of a memory line's halfword
+pub record Parts (a p w : List ℕ) (h : Halfword) : Type 0 where
+  pub at : decimalOf a ≡ gives (h .at)
+  pub protect : protectOf p ≡ gives (h .protect)
+  pub word : wordOf w ≡ gives (h .word)
+
+pub halfword-parts : (a p w : List ℕ) (h : Halfword) → halfwordFrom (a ∷ p ∷ w ∷ []) ≡ gives h → Parts a p w h
+unfolding halfwordFrom
+halfword-parts a p w h e =
+    let q = and-then-gives (decimalOf a) (λ x. andThen (protectOf p) (λ y. andThen (wordOf w) (λ z. gives (record { at = x; protect = y; word = z })))) e in
+    let r = and-then-gives (protectOf p) (λ y. andThen (wordOf w) (λ z. gives (record { at = q .0; protect = y; word = z }))) (q .2) in
+    let s = and-then-gives (wordOf w) (λ z. gives (record { at = q .0; protect = r .0; word = z })) (r .2) in
+    let same = gives-inj {x = record { at = q .0; protect = r .0; word = s .0 }} (s .2) in
+    record {
+      at = q .1 ∙ ap (λ (g : Halfword). gives (g .at)) same;
+      protect = r .1 ∙ ap (λ (g : Halfword). gives (g .protect)) same;
+      word = s .1 ∙ ap (λ (g : Halfword). gives (g .word)) same;
+    }
+
 protect-fits : (vs : List (List ℕ)) (h : Halfword) → halfwordFrom vs ≡ gives h → h .protect < 2
 unfolding halfwordFrom
 protect-fits [] h e = never e
 protect-fits (a ∷ []) h e = never e
 protect-fits (a ∷ p ∷ []) h e = never e
-protect-fits (a ∷ p ∷ w ∷ []) h e =
-    let q = and-then-gives (decimalOf a) (λ x. andThen (protectOf p) (λ y. andThen (wordOf w) (λ z. gives (record { at = x; protect = y; word = z })))) e in
-    let r = and-then-gives (protectOf p) (λ y. andThen (wordOf w) (λ z. gives (record { at = q .0; protect = y; word = z }))) (q .2) in
-    let s = and-then-gives (wordOf w) (λ z. gives (record { at = q .0; protect = r .0; word = z })) (r .2) in
-    let f : r .0 ≡ h .protect = ap (λ (g : Halfword). g .protect) (gives-inj (s .2)) in
-    rw f at (protect-small p (r .0) (r .1))
+protect-fits (a ∷ p ∷ w ∷ []) h e = protect-small p (h .protect) (halfword-parts a p w h e .protect)
 protect-fits (a ∷ p ∷ w ∷ x ∷ vs) h e = never e
 
 abbrev pub Fits : Progress → Given → Type 0
 Fits p g = Storable g (p .count) (length (p .held .cells)) (length (p .held .memory)) (length (p .held .protect))
 
 -- what a line of each kind can give
-abbrev pub Sound : Wanted → Progress → Given → Type 0
-Sound heading p headed = Unit {0}
-Sound heading p (ordered o) = ⊥
-Sound heading p parted = ⊥
-Sound heading p (stored h) = ⊥
-Sound order p headed = ⊥
-Sound order p (ordered o) = Fits p (ordered o)
-Sound order p parted = Unit {0}
-Sound order p (stored h) = ⊥
-Sound storage p headed = Unit {0}
-Sound storage p (ordered o) = ⊥
-Sound storage p parted = ⊥
-Sound storage p (stored h) = ⊥
-Sound halfword p headed = ⊥
-Sound halfword p (ordered o) = ⊥
-Sound halfword p parted = ⊥
-Sound halfword p (stored h) = (p .least ≤ h .at) × Fits p (stored h)
+pub data Sound (p : Progress) : Wanted → Given → Type 0 where
+  first : Sound p heading headed
+  anOrder : (o : Order) → Fits p (ordered o) → Sound p order (ordered o)
+  parting : Sound p order parted
+  second : Sound p storage headed
+  aHalfword : (h : Halfword) → p .least ≤ h .at → Fits p (stored h) → Sound p halfword (stored h)
 
 pub heading-given : (ok : Bool) (g : Given) → provided ok 16 (gives headed) ≡ gives g → headed ≡ g
 heading-given ok g h = gives-inj (provided-gives ok 16 (gives headed) h .1)
 
-order-sound : (p : Progress) (line : List ℕ) (t : Bool) (g : Given) → cond t (gives parted) (andThen (orderOf line) (orderFits p)) ≡ gives g → Sound order p g
-order-sound p line true g h = subst (λ (x : Given). Sound order p x) (gives-inj h) tt
+order-sound : (p : Progress) (line : List ℕ) (t : Bool) (g : Given) → cond t (gives parted) (andThen (orderOf line) (orderFits p)) ≡ gives g → Sound p order g
+order-sound p line true g h = subst (λ (x : Given). Sound p order x) (gives-inj h) parting
 order-sound p line false g h =
     let q = and-then-gives (orderOf line) (orderFits p) h in
     let r = provided-gives (leb (p .count * 4 + 4) (length (p .held .cells))) 17 (gives (ordered (q .0))) (q .2) in
-    subst (λ (x : Given). Sound order p x) (gives-inj (r .1)) (leb-true _ _ (r .0))
+    subst (λ (x : Given). Sound p order x) (gives-inj (r .1)) (anOrder (q .0) (leb-true _ _ (r .0)))
 
-pub sound : (w : Wanted) (p : Progress) (line : List ℕ) (g : Given) → lineAs w p line ≡ gives g → Sound w p g
+pub sound : (w : Wanted) (p : Progress) (line : List ℕ) (g : Given) → lineAs w p line ≡ gives g → Sound p w g
 unfolding halfwordOf
-sound heading p line g h = subst (λ (x : Given). Sound heading p x) (heading-given (same line deckHeading) g h) tt
+sound heading p line g h = subst (λ (x : Given). Sound p heading x) (heading-given (same line deckHeading) g h) first
 sound order p line g h = order-sound p line (same line []) g h
-sound storage p line g h = subst (λ (x : Given). Sound storage p x) (heading-given (same line storageHeading) g h) tt
+sound storage p line g h = subst (λ (x : Given). Sound p storage x) (heading-given (same line storageHeading) g h) second
 sound halfword p line g h =
     let q = and-then-gives (halfwordOf line) (halfwordFits p) h in
     let a = provided-gives (leb (p .least) (q .0 .at)) 16 _ (q .2) in
     let b = provided-gives (ltb (q .0 .at) (length (p .held .memory))) 17 _ (a .1) in
     let c = provided-gives (ltb (q .0 .at) (length (p .held .protect))) 17 (gives (stored (q .0))) (b .1) in
-    subst (λ (x : Given). Sound halfword p x) (gives-inj (c .1))
-    (leb-true _ _ (a .0), (ltb-true _ _ (b .0), ltb-true _ _ (c .0), protect-fits (valuesOf line) (q .0) (q .1)))
+    subst (λ (x : Given). Sound p halfword x) (gives-inj (c .1))
+    (aHalfword (q .0) (leb-true _ _ (a .0)) (ltb-true _ _ (b .0), ltb-true _ _ (c .0), protect-fits (valuesOf line) (q .0) (q .1)))
 
-pub sound-fits : (w : Wanted) (p : Progress) (g : Given) → Sound w p g → Fits p g
-sound-fits w p headed s = tt
-sound-fits heading p (ordered o) s = absurd s
-sound-fits order p (ordered o) s = s
-sound-fits storage p (ordered o) s = absurd s
-sound-fits halfword p (ordered o) s = absurd s
-sound-fits w p parted s = tt
-sound-fits heading p (stored h) s = absurd s
-sound-fits order p (stored h) s = absurd s
-sound-fits storage p (stored h) s = absurd s
-sound-fits halfword p (stored h) s = s .1
-
-pub sound-rises : (w : Wanted) (p : Progress) (h : Halfword) → Sound w p (stored h) → p .least ≤ h .at
-sound-rises heading p h s = absurd s
-sound-rises order p h s = absurd s
-sound-rises storage p h s = absurd s
-sound-rises halfword p h s = s .0
-
-pub fits : (w : Wanted) (p : Progress) (line : List ℕ) (g : Given) → lineAs w p line ≡ gives g → Fits p g
-fits w p line g h = sound-fits w p g (sound w p line g h)
+pub sound-fits : {p : Progress} {w : Wanted} {g : Given} → Sound p w g → Fits p g
+sound-fits first = tt
+sound-fits (anOrder o f) = f
+sound-fits parting = tt
+sound-fits second = tt
+sound-fits (aHalfword h r f) = f
 
 -- ---- the count of values, by another name
 

@@ -8,7 +8,7 @@ use native.Mathlib.Omega.{arith}
 use lib.Dec.{leb, ltb}
 use lib.ListN.{length}
 use borrow.Author.Tests.{ltb-true, ltb-false}
-use Rattle.hexfloat.specs.Answer.{gives, stops}
+use Rattle.hexfloat.specs.Answer.{gives}
 use Rattle.machine.specs.declared.order.Order.{Order}
 use Rattle.machine.specs.Says.{provided, andThen}
 use Rattle.machine.proofs.Answers.{gives-inj, provided-gives}
@@ -17,7 +17,7 @@ use Rattle.decktext.specs.Format.{deckHeading, storageHeading, orderOf, 
 use Rattle.decktext.specs.Read.{Buffers, refused, taken, outcome, Wanted, heading, order, storage, halfword, Progress, start, Given, headed, ordered, parted, stored, orderFits, halfwordFits, lineAs, lineRead, progressed, Read, whole, faulty, linesRead, concludedWith, readText}
 use Rattle.decktext.specs.Theorems.{Through, Faulty, Numbered, count, malformed, noRoom, aboveLimit, upToEmpty, afterFirst, orderLines}
 use Rattle.decktext.proofs.Answers.{Is16or17, Only, only-either, only-provided, only-and-then, only-cond, and-then-gives}
-use Rattle.decktext.proofs.Forms.{Sound, order-only, halfword-only}
+use Rattle.decktext.proofs.Forms.{Sound, first, anOrder, parting, second, aHalfword, heading-given, order-only, halfword-only}
 use Rattle.decktext.proofs.Laws.{accepted}
 use Rattle.decktext.proofs.Passing.{read-on, through, first-fault, line-sound}
 use Rattle.decktext.proofs.Walking.{textRead, other}
@@ -72,24 +72,19 @@ Past order = ⊥
 Past storage = Unit {0}
 Past halfword = Unit {0}
 
-past-on : (w : Wanted) (p : Progress) (g : Given) → p .wanted ≡ w → Past w → Sound w p g → (progressed g p .count ≡ p .count) × Past (progressed g p .wanted)
+past-on : {p : Progress} {w : Wanted} {g : Given} → p .wanted ≡ w → Past w → Sound p w g → (progressed g p .count ≡ p .count) × Past (progressed g p .wanted)
 unfolding progressed
-past-on heading p g e past s = absurd past
-past-on order p g e past s = absurd past
-past-on storage p headed e past s = (refl, rw e tt)
-past-on storage p (ordered o) e past s = absurd s
-past-on storage p parted e past s = absurd s
-past-on storage p (stored h) e past s = absurd s
-past-on halfword p headed e past s = absurd s
-past-on halfword p (ordered o) e past s = absurd s
-past-on halfword p parted e past s = absurd s
-past-on halfword p (stored h) e past s = (refl, tt)
+past-on e past first = absurd past
+past-on e past (anOrder o f) = absurd past
+past-on e past parting = absurd past
+past-on e past second = (refl, rw e tt)
+past-on e past (aHalfword h r f) = (refl, tt)
 
 past-count : (ls : List Line) (p q : Progress) → Past (p .wanted) → Through ls p q → q .count ≡ p .count
 past-count [] p q past h = ap (λ (x : Progress). x .count) (sym h)
 past-count (unended l ∷ ls) p q past h = absurd h
 past-count (ended l ∷ ls) p q past h =
-    let s = past-on (p .wanted) p (h .0) refl past (line-sound p l (h .0) (h .1)) in
+    let s = past-on refl past (line-sound p l (h .0) (h .1)) in
     past-count ls (progressed (h .0) p) q (s .1) (h .2) ∙ s .0
 
 -- where an order is wanted, an empty line ends the orders, and any other is one
@@ -117,11 +112,9 @@ orders-count (ended (b ∷ l) ∷ ls) p q e h =
     let z = orders-count ls (progressed (ordered (o .0)) p) q refl r in
     omega arith
 
-heading-line : (p : Progress) (g : Given) → Sound heading p g → g ≡ headed
-heading-line p headed s = refl
-heading-line p (ordered o) s = absurd s
-heading-line p parted s = absurd s
-heading-line p (stored h) s = absurd s
+heading-line : (b : Buffers) (l : List ℕ) (g : Given) → lineRead (start b) l ≡ gives g → g ≡ headed
+unfolding lineRead
+heading-line b l g h = sym (heading-given (same l deckHeading) g h)
 
 text-count : (ls : List Line) (b : Buffers) (q : Progress) → linesRead ls (start b) 1 ≡ whole q → q .count ≡ length (upToEmpty (afterFirst ls))
 unfolding linesRead progressed
@@ -129,7 +122,7 @@ text-count [] b q h = other h
 text-count (unended l ∷ ls) b q h = other h
 text-count (ended l ∷ ls) b q h =
     let r = read-on (lineRead (start b) l) (start b) q 1 (λ x. linesRead ls x 2) h in
-    let s : linesRead ls (progressed headed (start b)) 2 ≡ whole q = rw (heading-line (start b) (r .0) (line-sound (start b) l (r .0) (r .1))) at (r .2) in
+    let s : linesRead ls (progressed headed (start b)) 2 ≡ whole q = rw (heading-line b l (r .0) (r .1)) at (r .2) in
     let z = orders-count ls (progressed headed (start b)) q refl (through ls (progressed headed (start b)) q 2 s) in
     omega arith
 

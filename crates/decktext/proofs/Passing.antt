@@ -6,12 +6,11 @@ use native.Mathlib.Omega.{arith}
 use lib.ListN.{length, getD, length-set}
 use lib.Seq.{getD-set-other}
 use Rattle.hexfloat.specs.Answer.{Answer, gives, stops}
-use Rattle.machine.specs.declared.order.Order.{Order}
 use Rattle.machine.specs.Order.{orderAt}
 use Rattle.decktext.specs.Text.{Line, ended, unended}
 use Rattle.decktext.specs.Read.{Wanted, heading, order, storage, halfword, Progress, Given, headed, ordered, parted, stored, lineRead, bufferedWith, progressed, Read, whole, faulty, endRead, readOn, linesRead}
 use Rattle.decktext.specs.Theorems.{Through, Faulty}
-use Rattle.decktext.proofs.Forms.{Sound, sound, sound-fits, sound-rises}
+use Rattle.decktext.proofs.Forms.{Sound, first, anOrder, parting, second, aHalfword, sound}
 use Rattle.decktext.proofs.Cells.{order-kept}
 use Rattle.decktext.proofs.Walking.{other, end-whole}
 
@@ -118,30 +117,29 @@ same-kept p q n l h = record {
   room = λ r. rw (← n, ← h) r;
 }
 
-kept : (w : Wanted) (p : Progress) (g : Given) → Sound w p g → Kept p (progressed g p)
+kept : {p : Progress} {w : Wanted} {g : Given} → Sound p w g → Kept p (progressed g p)
 unfolding progressed bufferedWith
-kept w p headed s = same-kept p _ refl refl refl
-kept w p parted s = same-kept p _ refl refl refl
-kept w p (ordered o) s = record {
+kept {p} first = same-kept p _ refl refl refl
+kept {p} parting = same-kept p _ refl refl refl
+kept {p} second = same-kept p _ refl refl refl
+kept {p} (anOrder o f) = record {
   orders = omega arith;
   least = omega arith;
   cells = λ j k. order-kept (p .held .cells) (p .count) j o k;
   memory = λ a k. refl;
   protect = λ a k. refl;
   size = simp length-set;
-  room = λ r. let f : p .count * 4 + 4 ≤ length (p .held .cells) = sound-fits w p (ordered o) s in simp length-set (omega arith);
+  room = λ r. simp length-set (omega arith);
 }
-kept w p (stored h) s =
-    let f = sound-rises w p h s in
-    record {
-      orders = omega arith;
-      least = omega arith;
-      cells = λ j k. refl;
-      memory = λ a k. getD-set-other (p .held .memory) (h .at) a (h .word) 0 (λ e. omega arith);
-      protect = λ a k. getD-set-other (p .held .protect) (h .at) a (h .protect) 0 (λ e. omega arith);
-      size = refl;
-      room = λ r. r;
-    }
+kept {p} (aHalfword h r f) = record {
+  orders = omega arith;
+  least = omega arith;
+  cells = λ j k. refl;
+  memory = λ a k. getD-set-other (p .held .memory) (h .at) a (h .word) 0 (λ e. omega arith);
+  protect = λ a k. getD-set-other (p .held .protect) (h .at) a (h .protect) 0 (λ e. omega arith);
+  size = refl;
+  room = λ r. r;
+}
 
 kept-trans : {p q r : Progress} → Kept p q → Kept q r → Kept p r
 kept-trans a b = record {
@@ -154,7 +152,7 @@ kept-trans a b = record {
   room = λ r. b .room (a .room r);
 }
 
-pub line-sound : (p : Progress) (l : List ℕ) (g : Given) → lineRead p l ≡ gives g → Sound (p .wanted) p g
+pub line-sound : (p : Progress) (l : List ℕ) (g : Given) → lineRead p l ≡ gives g → Sound p (p .wanted) g
 unfolding lineRead
 line-sound p l g h = sound (p .wanted) p l g h
 
@@ -162,7 +160,7 @@ pub all-kept : (ls : List Line) (p q : Progress) → Through ls p q → Kept p q
 all-kept [] p q h = same-kept p q (ap (λ (x : Progress). x .count) h) (ap (λ (x : Progress). x .least) h) (ap (λ (x : Progress). x .held) h)
 all-kept (unended l ∷ ls) p q h = absurd h
 all-kept (ended l ∷ ls) p q h =
-    kept-trans (kept (p .wanted) p (h .0) (line-sound p l (h .0) (h .1))) (all-kept ls (progressed (h .0) p) q (h .2))
+    kept-trans (kept (line-sound p l (h .0) (h .1))) (all-kept ls (progressed (h .0) p) q (h .2))
 
 -- ---- an order's place
 
@@ -173,24 +171,13 @@ Counted order n m = m ≡ n + 1
 Counted storage n m = Unit {0}
 Counted halfword n m = Unit {0}
 
-counted : (w : Wanted) (p : Progress) (g : Given) (m : ℕ) → p .wanted ≡ w → Sound w p g → Counted w (p .count) m → Counted (progressed g p .wanted) (progressed g p .count) (m + 1)
+counted : {p : Progress} {w : Wanted} {g : Given} (m : ℕ) → p .wanted ≡ w → Sound p w g → Counted w (p .count) m → Counted (progressed g p .wanted) (progressed g p .count) (m + 1)
 unfolding progressed
-counted heading p headed m e s c = rw e (omega arith)
-counted heading p (ordered o) m e s c = absurd s
-counted heading p parted m e s c = absurd s
-counted heading p (stored h) m e s c = absurd s
-counted order p headed m e s c = absurd s
-counted order p (ordered o) m e s c = omega arith
-counted order p parted m e s c = tt
-counted order p (stored h) m e s c = absurd s
-counted storage p headed m e s c = rw e tt
-counted storage p (ordered o) m e s c = absurd s
-counted storage p parted m e s c = absurd s
-counted storage p (stored h) m e s c = absurd s
-counted halfword p headed m e s c = absurd s
-counted halfword p (ordered o) m e s c = absurd s
-counted halfword p parted m e s c = absurd s
-counted halfword p (stored h) m e s c = tt
+counted m e first c = rw e (omega arith)
+counted m e (anOrder o f) c = omega arith
+counted m e parting c = tt
+counted m e second c = rw e tt
+counted m e (aHalfword h r f) c = tt
 
 pub all-counted : (ls : List Line) (p q : Progress) (m : ℕ) → Through ls p q → Counted (p .wanted) (p .count) m → Counted (q .wanted) (q .count) (m + length ls)
 all-counted [] p q m h c = let z : m + 0 ≡ m = omega arith in rw (← h, z) c
@@ -198,10 +185,18 @@ all-counted (unended l ∷ ls) p q m h c = absurd h
 all-counted (ended l ∷ ls) p q m h c =
     let z : m + 1 + length ls ≡ m + length (ended l ∷ ls) = omega arith in
     subst (λ (n : ℕ). Counted (q .wanted) (q .count) n) z
-    (all-counted ls (progressed (h .0) p) q (m + 1) (h .2) (counted (p .wanted) p (h .0) m refl (line-sound p l (h .0) (h .1)) c))
+    (all-counted ls (progressed (h .0) p) q (m + 1) (h .2) (counted m refl (line-sound p l (h .0) (h .1)) c))
 
-pub order-wanted : (w : Wanted) (p : Progress) (o : Order) → Sound w p (ordered o) → w ≡ order
-order-wanted heading p o s = absurd s
-order-wanted order p o s = refl
-order-wanted storage p o s = absurd s
-order-wanted halfword p o s = absurd s
+-- an order comes where one is wanted
+abbrev pub WantedBy : Given → Wanted → Type 0
+WantedBy headed w = Unit {0}
+WantedBy (ordered o) w = w ≡ order
+WantedBy parted w = Unit {0}
+WantedBy (stored h) w = Unit {0}
+
+pub wanted-by : {p : Progress} {w : Wanted} {g : Given} → Sound p w g → WantedBy g w
+wanted-by first = tt
+wanted-by (anOrder o f) = refl
+wanted-by parting = tt
+wanted-by second = tt
+wanted-by (aHalfword h r f) = tt

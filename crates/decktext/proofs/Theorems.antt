@@ -13,7 +13,7 @@ use Rattle.decktext.specs.Theorems.{Through, FirstFault, Written, Reader
 use Rattle.decktext.proofs.Cells.{order-put}
 use Rattle.decktext.proofs.Forms.{sound-fits}
 use Rattle.decktext.proofs.Laws.{accepted}
-use Rattle.decktext.proofs.Passing.{front, through, skip, first-fault, all-kept, Kept, line-sound, Counted, all-counted, order-wanted}
+use Rattle.decktext.proofs.Passing.{front, through, skip, first-fault, all-kept, Kept, line-sound, Counted, all-counted, wanted-by}
 use Rattle.decktext.proofs.Numbers.{numbered, counted}
 use Rattle.decktext.proofs.Readings.{apart, within-limit}
 use Rattle.decktext.proofs.Walking.{textRead}
@@ -66,17 +66,17 @@ written t b n h = record {
       let k = rest-kept t b n h before after line p cut gone (ordered o) given in
       let e = held-after t b n h before after line p cut gone (ordered o) given in
       let c : Counted (p .wanted) (p .count) (0 + length before) = all-counted before (start b) p 0 gone (refl, refl) in
-      let w : Counted order (p .count) (0 + length before) = rw (order-wanted (p .wanted) p o s) at c in (
+      let w : Counted order (p .count) (0 + length before) = rw (wanted-by s) at c in (
         omega arith,
-        ap (λ (x : Buffers). orderAt (x .cells) (p .count)) e ∙ k .cells (p .count) (omega arith) ∙ order-put (p .held .cells) (p .count) o (sound-fits (p .wanted) p (ordered o) s),
+        ap (λ (x : Buffers). orderAt (x .cells) (p .count)) e ∙ k .cells (p .count) (omega arith) ∙ order-put (p .held .cells) (p .count) o (sound-fits s),
       );
   word = λ before after line p m cut gone given.
-      let s = sound-fits (p .wanted) p (stored m) (line-sound p line (stored m) given) in
+      let s = sound-fits (line-sound p line (stored m) given) in
       let k = rest-kept t b n h before after line p cut gone (stored m) given in
       let e = held-after t b n h before after line p cut gone (stored m) given in
       ap (λ (x : Buffers). getD (x .memory) (m .at) 0) e ∙ k .memory (m .at) (omega arith) ∙ getD-set-same (p .held .memory) (m .at) (m .word) 0 (s .0);
   protect = λ before after line p m cut gone given.
-      let s = sound-fits (p .wanted) p (stored m) (line-sound p line (stored m) given) in
+      let s = sound-fits (line-sound p line (stored m) given) in
       let k = rest-kept t b n h before after line p cut gone (stored m) given in
       let e = held-after t b n h before after line p cut gone (stored m) given in
       ap (λ (x : Buffers). getD (x .protect) (m .at) 0) e ∙ k .protect (m .at) (omega arith) ∙ getD-set-same (p .held .protect) (m .at) (m .protect) 0 (s .1);

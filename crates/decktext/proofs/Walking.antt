@@ -14,7 +14,7 @@ use Rattle.decktext.specs.Text.{linesOf}
 use Rattle.decktext.specs.Read.{Buffers, refused, saysReading, Wanted, heading, order, storage, halfword, Progress, start as begun, Given, headed, ordered, parted, stored, lineRead, bufferedWith, progressed, Read, whole, faulty, endRead, linesRead}
 use Rattle.decktext.specs.Walk.{Stretch, Storable, wantedOf, progressOf, Sized, endSaid, concluded, saidOf, Walked}
 use Rattle.decktext.specs.Staged.{placeAfter, valuesIn, halfwordsWith, stagedWith, replayed, Landing}
-use Rattle.decktext.proofs.Forms.{Sound, sound, sound-fits}
+use Rattle.decktext.proofs.Forms.{Sound, first, anOrder, parting, second, aHalfword, sound, sound-fits}
 use Rattle.decktext.proofs.Lines.{part, length-part, line-ended, line-unended, no-line}
 use Rattle.decktext.proofs.Staging.{Follows, ordersWith, size-with, place-with, replayed-none, replayed-with, landing-none, landing-with}
 use Rattle.decktext.proofs.Widths.{line-bytes}
@@ -79,38 +79,25 @@ count-with (ordered o) p = refl
 count-with parted p = refl
 count-with (stored h) p = refl
 
-follows : (w : Wanted) (p : Progress) (g : Given) (k : ℕ) → Sound w p g → Early w k → Follows g k
-follows w p headed k s e = tt
-follows heading p (ordered o) k s e = absurd s
-follows order p (ordered o) k s e = e
-follows storage p (ordered o) k s e = absurd s
-follows halfword p (ordered o) k s e = absurd s
-follows w p parted k s e = tt
-follows w p (stored h) k s e = tt
+follows : {p : Progress} {w : Wanted} {g : Given} (k : ℕ) → Sound p w g → Early w k → Follows g k
+follows k first e = tt
+follows k (anOrder o f) e = e
+follows k parting e = tt
+follows k second e = tt
+follows k (aHalfword h r f) e = tt
 
-early-with : (w : Wanted) (p : Progress) (g : Given) (k : ℕ) → p .wanted ≡ w → Sound w p g → Early w k → Early (progressed g p .wanted) (halfwordsWith g k)
+early-with : {p : Progress} {w : Wanted} {g : Given} (k : ℕ) → p .wanted ≡ w → Sound p w g → Early w k → Early (progressed g p .wanted) (halfwordsWith g k)
 unfolding progressed
-early-with heading p headed k q s e = rw q e
-early-with heading p (ordered o) k q s e = absurd s
-early-with heading p parted k q s e = absurd s
-early-with heading p (stored h) k q s e = absurd s
-early-with order p headed k q s e = absurd s
-early-with order p (ordered o) k q s e = e
-early-with order p parted k q s e = e
-early-with order p (stored h) k q s e = absurd s
-early-with storage p headed k q s e = rw q tt
-early-with storage p (ordered o) k q s e = absurd s
-early-with storage p parted k q s e = absurd s
-early-with storage p (stored h) k q s e = absurd s
-early-with halfword p headed k q s e = absurd s
-early-with halfword p (ordered o) k q s e = absurd s
-early-with halfword p parted k q s e = absurd s
-early-with halfword p (stored h) k q s e = tt
+early-with k q first e = rw q e
+early-with k q (anOrder o f) e = e
+early-with k q parting e = e
+early-with k q second e = rw q tt
+early-with k q (aHalfword h r f) e = tt
 
 module _ {t : List ℕ} {b : Buffers} {s : Sizes} {p : Place} {at line k : ℕ} {staged : List ℕ} (r : Walking t b s p at line k staged) where
   module _ {e : ℕ} (m : Stretch t at (length t) 10 e) where
     module _ (l : e < length t) (g : Given) (f : lineRead (reached p k staged b) (part at e t) ≡ gives g) where
-      given-sound : Sound (wantedOf (p .wanted)) (reached p k staged b) g
+      given-sound : Sound (reached p k staged b) (wantedOf (p .wanted)) g
       unfolding lineRead
       given-sound = sound (wantedOf (p .wanted)) (reached p k staged b) (part at e t) g f
 
@@ -128,7 +115,7 @@ module _ {t : List ℕ} {b : Buffers} {s : Sizes} {p : Place} {at line k : ℕ} 
       fits-sizes : Storable g (p .count) (s .cells) (s .memory) (s .protect)
       fits-sizes =
           rw (← r .sized .cells, ← r .sized .memory, ← r .sized .protect)
-          (sound-fits (wantedOf (p .wanted)) (reached p k staged b) g given-sound)
+          (sound-fits given-sound)
 
       pub on : length t ≤ 32768 → (next : Place) → ((x : Buffers) → progressOf next (bufferedWith g (p .count) x) ≡ progressed g (progressOf p x))
           → (to : ℕ) → to ≡ e + 1 → (more : ℕ) → more ≡ halfwordsWith g k → (after : List ℕ) → after ≡ stagedWith g (p .count) k staged
@@ -137,7 +124,7 @@ module _ {t : List ℕ} {b : Buffers} {s : Sizes} {p : Place} {at line k : ℕ} 
       on limit next moved to past more halfwords after put =
           let held = replayed staged (p .count) k b in
           let wide = stageable limit in
-          let behind = follows (wantedOf (p .wanted)) (reached p k staged b) g k given-sound (r .early) in
+          let behind = follows k given-sound (r .early) in
           let n : next .count ≡ ordersWith g (p .count) = ap (λ (x : Progress). x .count) (moved held) ∙ count-with g (progressOf p held) in
           let w : wantedOf (next .wanted) ≡ progressed g (progressOf p held) .wanted = ap (λ (x : Progress). x .wanted) (moved held) in
           let now : replayed after (next .count) more b ≡ bufferedWith g (p .count) held =
@@ -150,7 +137,7 @@ module _ {t : List ℕ} {b : Buffers} {s : Sizes} {p : Place} {at line k : ℕ} 
             lines = omega (arith, r .lines, m .low);
             half = rw (n, halfwords, place-with g (p .count) k) (omega (arith, halves, past));
             size = rw put (size-with g (p .count) k staged ∙ r .size);
-            early = rw (w, halfwords) (early-with (wantedOf (p .wanted)) (progressOf p held) g k refl given-sound (r .early));
+            early = rw (w, halfwords) (early-with k refl given-sound (r .early));
             landing = rw (put, n, halfwords) (landing-with g (p .count) k staged (s .cells) (s .memory) (s .protect) (r .size) behind wide fits-sizes (r .landing));
           }
 

@@ -1,22 +1,22 @@
 -- How many bytes a line has at least that gives some values: two for each, with its LF.
 use Prim.Native.Nat.{ℕ, _+_, _*_, _≤_}
-use mathlib.Core.Path.{_≡_, refl}
+use mathlib.Core.Path.{_≡_, refl, sym, _∙_}
 use mathlib.Core.Bool.{Bool, true, false, cond}
 use mathlib.Core.List.{List, [], _∷_}
 use native.Mathlib.Omega.{arith}
 use lib.Dec.{eqb, leb}
 use lib.ListN.{length}
-use Rattle.hexfloat.specs.Answer.{gives}
+use Rattle.hexfloat.specs.Answer.{Answer, gives, stops}
 use Rattle.machine.specs.declared.order.Order.{Order}
 use Rattle.machine.specs.Says.{andThen}
 use Rattle.machine.proofs.Answers.{gives-inj, never, provided-gives}
 use Rattle.decktext.specs.Text.{same, prefixed, valuesOf}
 use Rattle.decktext.specs.Value.{codeAmong, mnemonicCode, decimalOf, protectOf, wordOf}
-use Rattle.decktext.specs.Format.{deckHeading, storageHeading, legal, orderFrom, orderOf, Halfword, halfwordFrom, halfwordOf}
-use Rattle.decktext.specs.Read.{Wanted, heading, order, storage, halfword, Progress, Given, headed, ordered, parted, stored, orderFits, halfwordFits, lineAs}
+use Rattle.decktext.specs.Format.{legal, orderFrom, orderOf, Halfword, halfwordFrom, halfwordOf}
+use Rattle.decktext.specs.Read.{Wanted, heading, order, storage, halfword, Progress, Given, ordered, parted, orderFits, halfwordFits, lineAs}
 use Rattle.decktext.specs.Staged.{valuesIn}
 use Rattle.decktext.proofs.Answers.{and-then-gives}
-use Rattle.decktext.proofs.Forms.{Sound, heading-given, sound}
+use Rattle.decktext.proofs.Forms.{Sound, first, anOrder, parting, second, aHalfword, halfword-parts, sound}
 
 -- the bytes of some values, with a blank or the LF after each
 abbrev bytesOf : List (List ℕ) → ℕ
@@ -37,25 +37,25 @@ values-bytes (b ∷ s) = by (eqb b 32) (values-bytes s)
     by false h = let k = prefixed-bytes b (valuesOf s) (length s) h in omega arith
 
 -- no value is empty
-some-code : (v : List ℕ) (x : ℕ) → mnemonicCode v ≡ gives x → 1 ≤ length v
+some : (f : List ℕ → Answer ℕ) (n : ℕ) → f [] ≡ stops n → (v : List ℕ) (x : ℕ) → f v ≡ gives x → 1 ≤ length v
+some f n e [] x h = never (sym e ∙ h)
+some f n e (b ∷ v) x h = omega arith
+
+no-code : mnemonicCode [] ≡ stops 16
 unfolding mnemonicCode codeAmong same
-some-code [] x h = never h
-some-code (b ∷ v) x h = omega arith
+no-code = refl
 
-some-decimal : (v : List ℕ) (x : ℕ) → decimalOf v ≡ gives x → 1 ≤ length v
+no-decimal : decimalOf [] ≡ stops 16
 unfolding decimalOf
-some-decimal [] x h = never h
-some-decimal (b ∷ v) x h = omega arith
+no-decimal = refl
 
-some-protect : (v : List ℕ) (x : ℕ) → protectOf v ≡ gives x → 1 ≤ length v
+no-protect : protectOf [] ≡ stops 16
 unfolding protectOf same
-some-protect [] x h = never h
-some-protect (b ∷ v) x h = omega arith
+no-protect = refl
 
-some-word : (v : List ℕ) (x : ℕ) → wordOf v ≡ gives x → 1 ≤ length v
+no-word : wordOf [] ≡ stops 16
 unfolding wordOf
-some-word [] x h = never h
-some-word (b ∷ v) x h = omega arith
+no-word = refl
 
 order-bytes : (vs : List (List ℕ)) (o : Order) → orderFrom vs ≡ gives o → 8 ≤ bytesOf vs
 unfolding orderFrom
@@ -68,7 +68,7 @@ order-bytes (m ∷ a ∷ b ∷ c ∷ []) o h =
     let q = and-then-gives (decimalOf a) (λ r1. andThen (decimalOf b) (λ r2. andThen (decimalOf c) (λ at. legal (record { code = p .0; r1 = r1; r2 = r2; at = at })))) (p .2) in
     let r = and-then-gives (decimalOf b) (λ r2. andThen (decimalOf c) (λ at. legal (record { code = p .0; r1 = q .0; r2 = r2; at = at }))) (q .2) in
     let s = and-then-gives (decimalOf c) (λ at. legal (record { code = p .0; r1 = q .0; r2 = r .0; at = at })) (r .2) in
-    omega (arith, some-code m (p .0) (p .1), some-decimal a (q .0) (q .1), some-decimal b (r .0) (r .1), some-decimal c (s .0) (s .1))
+    omega (arith, some mnemonicCode 16 no-code m (p .0) (p .1), some decimalOf 16 no-decimal a (q .0) (q .1), some decimalOf 16 no-decimal b (r .0) (r .1), some decimalOf 16 no-decimal c (s .0) (s .1))
 order-bytes (m ∷ a ∷ b ∷ c ∷ d ∷ vs) o h = never h
 
 halfword-bytes : (vs : List (List ℕ)) (h : Halfword) → halfwordFrom vs ≡ gives h → 6 ≤ bytesOf vs
@@ -77,10 +77,8 @@ halfword-bytes [] h e = never e
 halfword-bytes (a ∷ []) h e = never e
 halfword-bytes (a ∷ p ∷ []) h e = never e
 halfword-bytes (a ∷ p ∷ w ∷ []) h e =
-    let q = and-then-gives (decimalOf a) (λ x. andThen (protectOf p) (λ y. andThen (wordOf w) (λ z. gives (record { at = x; protect = y; word = z })))) e in
-    let r = and-then-gives (protectOf p) (λ y. andThen (wordOf w) (λ z. gives (record { at = q .0; protect = y; word = z }))) (q .2) in
-    let s = and-then-gives (wordOf w) (λ z. gives (record { at = q .0; protect = r .0; word = z })) (r .2) in
-    omega (arith, some-decimal a (q .0) (q .1), some-protect p (r .0) (r .1), some-word w (s .0) (s .1))
+    let q = halfword-parts a p w h e in
+    omega (arith, some decimalOf 16 no-decimal a (h .at) (q .at), some protectOf 16 no-protect p (h .protect) (q .protect), some wordOf 16 no-word w (h .word) (q .word))
 halfword-bytes (a ∷ p ∷ w ∷ x ∷ vs) h e = never e
 
 order-line-bytes : (p : Progress) (line : List ℕ) (t : Bool) (g : Given) → cond t (gives parted) (andThen (orderOf line) (orderFits p)) ≡ gives g → valuesIn g * 2 ≤ length line + 1
@@ -97,15 +95,23 @@ halfword-line-bytes p line g h =
     let q = and-then-gives (halfwordOf line) (halfwordFits p) h in
     omega (arith, halfword-bytes (valuesOf line) (q .0) (q .1), values-bytes line)
 
+-- how many values a line of each kind gives at most
+abbrev most : Wanted → ℕ
+most heading = 0
+most order = 4
+most storage = 0
+most halfword = 3
+
+values-most : {p : Progress} {w : Wanted} {g : Given} → Sound p w g → valuesIn g ≤ most w
+values-most first = omega arith
+values-most (anOrder o f) = omega arith
+values-most parting = omega arith
+values-most second = omega arith
+values-most (aHalfword h r f) = omega arith
+
 -- a line has two bytes, with its LF, for each value that it gives
 pub line-bytes : (w : Wanted) (p : Progress) (line : List ℕ) (g : Given) → lineAs w p line ≡ gives g → valuesIn g * 2 ≤ length line + 1
-line-bytes heading p line g h = rw (← heading-given (same line deckHeading) g h) (omega arith)
+line-bytes heading p line g h = omega (arith, values-most (sound heading p line g h))
 line-bytes order p line g h = order-line-bytes p line (same line []) g h
-line-bytes storage p line g h = rw (← heading-given (same line storageHeading) g h) (omega arith)
-line-bytes halfword p line g h = three g (halfword-line-bytes p line g h) (sound halfword p line g h)
-  where
-    three : (g : Given) → 6 ≤ length line + 1 → Sound halfword p g → valuesIn g * 2 ≤ length line + 1
-    three headed l s = absurd s
-    three (ordered o) l s = absurd s
-    three parted l s = absurd s
-    three (stored h) l s = omega arith
+line-bytes storage p line g h = omega (arith, values-most (sound storage p line g h))
+line-bytes halfword p line g h = omega (arith, values-most (sound halfword p line g h), halfword-line-bytes p line g h)

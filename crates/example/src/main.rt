@@ -1,90 +1,94 @@
 // Runs the deck of document 01's example from cells, steps it back to the start and forward again, and
 // writes what stands after each call: the call, its steps, stop, pointer, condition code, mask and used
 // count; then the float and the general registers.
+use machine::Ran;
 use machine::State;
 use machine::Stop;
+ghost use mathlib.Core.Path.{_≡_};
+ghost use Rattle.machine.specs.Machine.{machine};
+ghost use Rattle.machine.specs.Step.{stepped};
+ghost use Rattle.machine.specs.Stops.{numberOf};
+ghost use Rattle.example.specs.Return.{Returned};
 
-const OUT: i32 = 1;
-
-fn digit(n: u32) -> u8 {
-    let k = (n % 16) as u8;
-    if k < 10 { 48 + k } else { 55 + k }
+// How a step and the back step after it ended, and the state that they leave.
+struct Return {
+    state: State,
+    step: Stop,
+    back: Stop,
 }
 
-// Eight digits, then one byte.
-fn write_word(w: u32, end: u8) {
-    let text = [
-        digit(w / 268435456),
-        digit(w / 16777216),
-        digit(w / 1048576),
-        digit(w / 65536),
-        digit(w / 4096),
-        digit(w / 256),
-        digit(w / 16),
-        digit(w),
-        end,
-    ];
-    io::write_all(OUT, &text);
-}
-
-// A blank and a number of one or two decimal digits.
-fn write_number(n: u32) {
-    let k = n % 100;
-    let tens = digit(k / 10);
-    let ones = digit(k % 10);
-    if k < 10 {
-        let text = [b' ', ones];
-        io::write_all(OUT, &text);
-        return;
+// A step, and the back step after it where it was taken. State and memory are then as they were: that
+// holds for whatever is lent, since a halfword of a `&mut [u16]` has 16 bits.
+fn step_and_return(
+    s: State,
+    deck: &[u16],
+    memory: &mut [u16],
+    protect: &[u8],
+    journal: &mut [u32],
+) -> Return
+    ensures { λ r. ⌜ Returned (now (deck .entry)) (now (protect .entry)) (machine s (now (memory .entry)) (now (journal .entry)))
+        (machine (r .state) (now (memory .exit)) (now (journal .exit))) (numberOf (r .step)) (numberOf (r .back)) ⌝ }
+{
+    let there = machine::step(s, deck, memory, protect, journal);
+    let after = there.state;
+    let step = there.stop;
+    if machine::number(step) != 0 {
+        return Return {
+            state: after,
+            step,
+            back: Stop::Taken,
+        };
     }
-    let text = [b' ', tens, ones];
-    io::write_all(OUT, &text);
+    let again = machine::back(after, memory, protect, journal);
+    let state = again.state;
+    let back = again.stop;
+    Return { state, step, back }
 }
 
-fn write_registers(r: [u32; 8]) {
-    write_word(r[0], b' ');
-    write_word(r[1], b' ');
-    write_word(r[2], b' ');
-    write_word(r[3], b' ');
-    write_word(r[4], b' ');
-    write_word(r[5], b' ');
-    write_word(r[6], b' ');
-    write_word(r[7], b'\n');
-}
-
-fn show(call: [u8; 4], count: u32, stop: Stop, s: State) {
+// A call's line, and the registers.
+fn show(name: [u8; 4], r: Ran) {
+    let s = r.state;
     let g = s.registers;
     let float = g.float;
     let general = g.general;
-    io::write_all(OUT, &call);
-    write_number(count);
-    write_number(machine::number(stop) as u32);
-    write_number(g.pointer as u32);
-    write_number(g.code as u32);
-    write_number(g.mask as u32);
-    write_number(s.used);
-    io::write_all(OUT, b"\n");
-    write_registers(float);
-    write_registers(general);
+    let stop = r.stop;
+    let t = trial::with_byte(trial::with_bytes(trial::empty(), &name), b' ');
+    let t = trial::with_decimal(t, r.count);
+    let t = trial::with_decimal(t, machine::number(stop) as u32);
+    let t = trial::with_decimal(t, g.status.pointer as u32);
+    let t = trial::with_decimal(t, g.status.condition as u32);
+    let t = trial::with_decimal(t, g.status.mask as u32);
+    trial::write(trial::ended(trial::with_decimal(t, s.used)));
+    trial::write(trial::ended(trial::with_registers(trial::empty(), float)));
+    trial::write(trial::ended(trial::with_registers(trial::empty(), general)));
 }
 
-// One step, shown.
-fn step(s: State, deck: &[u16], memory: &mut [u16], protect: &[u8], journal: &mut [u32]) -> State {
-    let t = machine::step(s, deck, memory, protect, journal);
-    let after = t.state;
-    let stop = t.stop;
-    let taken = machine::number(stop) == 0;
-    show(*b"step", taken as u32, stop, after);
+// One call, shown.
+fn called(
+    byte: u8,
+    name: [u8; 4],
+    s: State,
+    deck: &[u16],
+    memory: &mut [u16],
+    protect: &[u8],
+    journal: &mut [u32],
+) -> State {
+    let r = trial::call(byte, s, deck, memory, protect, journal);
+    let after = r.state;
+    show(name, r);
     after
+}
+
+// One step, shown. The step before it, with its return, leaves no trace but in unused journal words.
+fn step(s: State, deck: &[u16], memory: &mut [u16], protect: &[u8], journal: &mut [u32]) -> State {
+    let tried = step_and_return(s, deck, memory, protect, journal);
+    let before = tried.state;
+    called(b's', *b"step", before, deck, memory, protect, journal)
 }
 
 // One back step, shown.
-fn back(s: State, memory: &mut [u16], protect: &[u8], journal: &mut [u32]) -> State {
-    let t = machine::back(s, memory, protect, journal);
-    let after = t.state;
-    let stop = t.stop;
-    show(*b"back", 0, stop, after);
-    after
+fn back(s: State, deck: &[u16], memory: &mut [u16], protect: &[u8], journal: &mut [u32]) -> State {
+    called(b'b', *b"back", s, deck, memory, protect, journal)
 }
 
 fn main() {
@@ -102,12 +106,11 @@ fn main() {
         100,
     );
     let after = ran.state;
-    let stop = ran.stop;
-    show(*b"run ", ran.count, stop, after);
-    let s3 = back(after, &mut memory, &protect, &mut journal);
-    let s2 = back(s3, &mut memory, &protect, &mut journal);
-    let s1 = back(s2, &mut memory, &protect, &mut journal);
-    let s0 = back(s1, &mut memory, &protect, &mut journal);
+    show(*b"run ", ran);
+    let s3 = back(after, &deck, &mut memory, &protect, &mut journal);
+    let s2 = back(s3, &deck, &mut memory, &protect, &mut journal);
+    let s1 = back(s2, &deck, &mut memory, &protect, &mut journal);
+    let s0 = back(s1, &deck, &mut memory, &protect, &mut journal);
     let f1 = step(s0, &deck, &mut memory, &protect, &mut journal);
     let f2 = step(f1, &deck, &mut memory, &protect, &mut journal);
     let f3 = step(f2, &deck, &mut memory, &protect, &mut journal);

@@ -1,7 +1,7 @@
 -- The theorem of specs/Theorems.antt. A run whose stop is 0 took a step for each of its limit, each step fills a record of the journal, and the journal of
 -- 4,096 words has room for 1,024.
 use Prim.Native.Nat.{ℕ, zero, suc, _+_, _*_, _/_, _≤_}
-use mathlib.Core.Path.{_≡_, refl, sym, _∙_}
+use mathlib.Core.Path.{_≡_, refl}
 use mathlib.Core.Bool.{Bool, true, false}
 use mathlib.Core.List.{List}
 use native.Mathlib.Omega.{arith}

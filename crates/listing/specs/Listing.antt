@@ -7,7 +7,6 @@ use Rattle.machine.specs.Fresh.{freshState}
 use Rattle.machine.specs.Machine.{Machine, machine}
 use Rattle.machine.specs.Run.{ran}
 use Rattle.machine.specs.Step.{Outcome}
-use Rattle.decktext.specs.Read as Read
 use Rattle.decktext.specs.Read.{Buffers, buffers, Said, taken, refused, readText}
 use Rattle.listing.specs.Digits.{decimal, hexadecimal}
 

@@ -3,7 +3,7 @@ use Rattle.decktext.proofs.Parsed.{Taking, start as begin, on as on-val
 use Rattle.decktext.proofs.Forms.{placed-at, values-at, few, judged, faulty-line, by-fault, some-fault}
 use Rattle.decktext.specs.declared.fault.Fault.{Fault}
 use Rattle.decktext.specs.Fault.{faultNumber}
-use Rattle.decktext.specs.Walk.{Stretch, wantedOf, givenOf, faultOf, saysJudged, progressOf, valueCount, valueAs}
+use Rattle.decktext.specs.Walk.{Stretch, wantedOf, givenOf, saysJudged, valueCount, valueAs}
 use mathlib.Core.List.{List}
 use Rattle.decktext.specs.Read.{Buffers, Wanted, Progress, buffers, faulty, lineRead}
 use Rattle.decktext.specs.Value.{saysValue}

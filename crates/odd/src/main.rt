@@ -1,0 +1,251 @@
+// Runs lists of calls on states, buffers and journals of any content and any length.
+//
+// A case has eight lines: `DDDDD MMMMM PPPPP JJJJJ KK`, the lengths of deck, memory, protect list and
+// journal and the number of calls, in decimal; `CC MM PPPP UUUUUUUU`, condition code, mask, pointer and
+// used count, from here on in digits 0-9 A-F; the sixteen registers; of deck, memory, protect list and
+// journal the first 32 elements, or all if fewer, a line each, those after them being 0; the calls, one
+// byte each. For each call a line is written with its answer and every register, and after the calls of
+// a case the first 32 halfwords of memory and the first 32 words of the journal, or all if fewer.
+mod values;
+
+use machine::Registers;
+use machine::State;
+use machine::Status;
+use trial::Input;
+use trial::Number;
+use trial::Pointer;
+use values::read_list;
+use values::values_of;
+ghost use Prim.Native.Nat.{_≤_};
+ghost use lib.ListN.{length};
+
+fn complain() -> bool {
+    io::write_all(libc::STDERR_FILENO, b"odd: a case is not of the form\n");
+    false
+}
+
+fn written_words(journal: &[u32]) -> bool {
+    let mut t = trial::empty();
+    let mut i = 0;
+    while i < 32 && i < journal.len() {
+        t = trial::with_digits(t, 8, journal[i]);
+        i += 1;
+    }
+    trial::write(trial::with_byte(t, b'\n'))
+}
+
+// Reads the k calls and makes them, and writes what stands after them.
+fn run_case(
+    k: usize,
+    space: &mut [u8],
+    start: State,
+    deck: &[u16],
+    memory: &mut [u16],
+    protect: &[u8],
+    journal: &mut [u32],
+) -> bool {
+    if space.len() < k {
+        return complain();
+    }
+    let calls = &mut space[..k];
+    let Input::Whole = trial::read_line(calls) else {
+        return complain();
+    };
+    let listed = trial::list(calls, Pointer::Last, start, deck, memory, protect, journal);
+    listed.written && trial::write(trial::halfwords(memory, 32)) && written_words(journal)
+}
+
+// The lengths of a case.
+struct Sizes {
+    deck: usize,
+    memory: usize,
+    protect: usize,
+    journal: usize,
+    calls: usize,
+}
+
+// Lends the parts of the given lengths.
+fn lend(
+    n: Sizes,
+    start: State,
+    deck: &[u16],
+    memory: &mut [u16],
+    protect: &[u8],
+    journal: &mut [u32],
+) -> bool {
+    let mut calls = [0u8; 100];
+    let d = n.deck;
+    let m = n.memory;
+    let p = n.protect;
+    let j = n.journal;
+    if deck.len() < d {
+        return complain();
+    }
+    if memory.len() < m {
+        return complain();
+    }
+    if protect.len() < p {
+        return complain();
+    }
+    if journal.len() < j {
+        return complain();
+    }
+    run_case(
+        n.calls,
+        &mut calls,
+        start,
+        &deck[..d],
+        &mut memory[..m],
+        &protect[..p],
+        &mut journal[..j],
+    )
+}
+
+fn registers_of(v: [u32; 32], status: Status) -> Registers {
+    Registers {
+        float: [v[0], v[1], v[2], v[3], v[4], v[5], v[6], v[7]],
+        general: [v[8], v[9], v[10], v[11], v[12], v[13], v[14], v[15]],
+        status,
+    }
+}
+
+// A state as it is given, whatever it holds.
+struct Start {
+    state: State,
+    formed: bool,
+}
+
+fn read_start() -> Start {
+    let refused = Start {
+        state: machine::fresh(),
+        formed: false,
+    };
+    let mut line = [0u8; 19];
+    let mut registers = [0u8; 143];
+    let Input::Whole = trial::read_line(&mut line) else {
+        return refused;
+    };
+    let Input::Whole = trial::read_line(&mut registers) else {
+        return refused;
+    };
+    let Number::Value(condition) = trial::number_at(16, &line, 0, 2) else {
+        return refused;
+    };
+    let Number::Value(mask) = trial::number_at(16, &line, 3, 2) else {
+        return refused;
+    };
+    let Number::Value(pointer) = trial::number_at(16, &line, 6, 4) else {
+        return refused;
+    };
+    let Number::Value(used) = trial::number_at(16, &line, 11, 8) else {
+        return refused;
+    };
+    let status = Status {
+        condition: (condition % 256) as u8,
+        mask: (mask % 256) as u8,
+        pointer: (pointer % 65536) as u16,
+    };
+    let words = values_of(16, &registers, 16, 8, 9);
+    let value = words.value;
+    Start {
+        state: State {
+            registers: registers_of(value, status),
+            used,
+        },
+        formed: words.formed,
+    }
+}
+
+// The first 32 elements of each buffer.
+fn fill(
+    d: [u32; 32],
+    deck: &mut [u16],
+    m: [u32; 32],
+    memory: &mut [u16],
+    p: [u32; 32],
+    protect: &mut [u8],
+    j: [u32; 32],
+    journal: &mut [u32],
+)
+    requires { ⌜ (32 ≤ length (now deck)) × (32 ≤ length (now memory)) × (32 ≤ length (now protect)) × (32 ≤ length (now journal)) ⌝ }
+{
+    let mut i = 0;
+    while i < 32 {
+        deck[i] = (d[i] % 65536) as u16;
+        memory[i] = (m[i] % 65536) as u16;
+        protect[i] = (p[i] % 256) as u8;
+        journal[i] = j[i];
+        i += 1;
+    }
+}
+
+// Reads a case but for its first line and its calls. The buffers have more elements than any limit of
+// the machine.
+fn with_buffers(n: Sizes) -> bool {
+    let start = read_start();
+    let d = read_list(n.deck, 4);
+    let m = read_list(n.memory, 4);
+    let p = read_list(n.protect, 2);
+    let j = read_list(n.journal, 8);
+    if !(start.formed && d.formed && m.formed && p.formed && j.formed) {
+        return complain();
+    }
+    let mut deck = [0u16; 40000];
+    let mut memory = [0u16; 40000];
+    let mut protect = [0u8; 40000];
+    let mut journal = [0u32; 40000];
+    fill(
+        d.value,
+        &mut deck,
+        m.value,
+        &mut memory,
+        p.value,
+        &mut protect,
+        j.value,
+        &mut journal,
+    );
+    let s = start.state;
+    lend(n, s, &deck, &mut memory, &protect, &mut journal)
+}
+
+fn wide(n: u32) -> usize {
+    n as usize
+}
+
+// One case, and whether to go on.
+fn one_case() -> bool {
+    let mut head = [0u8; 26];
+    let input = trial::read_line(&mut head);
+    match input {
+        Input::Whole => {}
+        Input::End => {
+            return false;
+        }
+        Input::Malformed => {
+            return complain();
+        }
+    }
+    let lengths = values_of(10, &head, 4, 5, 6);
+    let Number::Value(k) = trial::number_at(10, &head, 24, 2) else {
+        return complain();
+    };
+    if !lengths.formed {
+        return complain();
+    }
+    let v = lengths.value;
+    with_buffers(Sizes {
+        deck: wide(v[0]),
+        memory: wide(v[1]),
+        protect: wide(v[2]),
+        journal: wide(v[3]),
+        calls: k as usize,
+    })
+}
+
+// A proved loop has to end: the turns count down from a number that no run uses up.
+fn main() {
+    let mut turns = u64::MAX;
+    while turns > 0 && one_case() {
+        turns -= 1;
+    }
+}

@@ -1,0 +1,78 @@
+// Input by lines and numbers.
+
+// What was read.
+pub enum Input {
+    Whole,
+    End,
+    Malformed,
+}
+
+// Fills the space. The input ends where nothing is left of it.
+pub fn read_bytes(space: &mut [u8]) -> Input {
+    let got = io::read_full(libc::STDIN_FILENO, space);
+    if got == space.len() {
+        return Input::Whole;
+    }
+    if got == 0 {
+        return Input::End;
+    }
+    Input::Malformed
+}
+
+// The same for the bytes of a line, and the line feed that ends it.
+pub fn read_line(space: &mut [u8]) -> Input {
+    let input = read_bytes(space);
+    match input {
+        Input::Whole => {}
+        Input::End => {
+            return Input::End;
+        }
+        Input::Malformed => {
+            return Input::Malformed;
+        }
+    }
+    let mut end = [0u8; 1];
+    read_bytes(&mut end);
+    if end[0] == b'\n' {
+        Input::Whole
+    } else {
+        Input::Malformed
+    }
+}
+
+// A number that was read.
+pub enum Number {
+    Value(u32),
+    Malformed,
+}
+
+// The value of a digit 0-9 A-F, or 16.
+fn digit_value(b: u8) -> u32 {
+    match b {
+        b'0'..=b'9' => (b - b'0') as u32,
+        b'A'..=b'F' => (b - b'A') as u32 + 10,
+        _ => 16,
+    }
+}
+
+// The number of so many digits from `at` on, cut to 32 bits.
+pub fn number_at(base: u32, text: &[u8], at: usize, digits: usize) -> Number {
+    let length = text.len();
+    if length < at {
+        return Number::Malformed;
+    }
+    if length - at < digits {
+        return Number::Malformed;
+    }
+    let mut n: u64 = 0;
+    let mut i = 0;
+    while i < digits {
+        let d = digit_value(text[at + i]);
+        if base <= d {
+            return Number::Malformed;
+        }
+        n = (n * base as u64 + d as u64) % 4294967296;
+        i += 1;
+    }
+    Number::Value(n as u32)
+}

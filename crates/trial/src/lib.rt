@@ -1,0 +1,28 @@
+// What the gate's programs over the machine share: input by lines and numbers, a call by its byte, and
+// lines of output.
+//
+// What a program writes is held to outside vectors, so the contracts here speak of the calls alone; of
+// the text it is proved that it is made safely.
+mod calling;
+mod input;
+mod line;
+
+pub use calling::Listed;
+pub use calling::Pointer;
+pub use calling::call;
+pub use calling::list;
+pub use input::Input;
+pub use input::Number;
+pub use input::number_at;
+pub use input::read_bytes;
+pub use input::read_line;
+pub use line::Line;
+pub use line::empty;
+pub use line::ended;
+pub use line::halfwords;
+pub use line::with_byte;
+pub use line::with_bytes;
+pub use line::with_decimal;
+pub use line::with_digits;
+pub use line::with_registers;
+pub use line::write;
