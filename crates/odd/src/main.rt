@@ -14,6 +14,7 @@ use machine::Status;
 use trial::Input;
 use trial::Number;
 use trial::Pointer;
+use values::Values;
 use values::read_list;
 use values::values_of;
 ghost use Prim.Native.Nat.{_≤_};
@@ -101,6 +102,17 @@ fn lend(
     )
 }
 
+fn read_registers() -> Values {
+    let mut line = [0u8; 143];
+    let Input::Whole = trial::read_line(&mut line) else {
+        return Values {
+            value: [0; 32],
+            formed: false,
+        };
+    };
+    values_of(16, &line, 16, 8, 9)
+}
+
 fn registers_of(v: [u32; 32], status: Status) -> Registers {
     Registers {
         float: [v[0], v[1], v[2], v[3], v[4], v[5], v[6], v[7]],
@@ -121,11 +133,7 @@ fn read_start() -> Start {
         formed: false,
     };
     let mut line = [0u8; 19];
-    let mut registers = [0u8; 143];
     let Input::Whole = trial::read_line(&mut line) else {
-        return refused;
-    };
-    let Input::Whole = trial::read_line(&mut registers) else {
         return refused;
     };
     let Number::Value(condition) = trial::number_at(16, &line, 0, 2) else {
@@ -145,7 +153,7 @@ fn read_start() -> Start {
         mask: (mask % 256) as u8,
         pointer: (pointer % 65536) as u16,
     };
-    let words = values_of(16, &registers, 16, 8, 9);
+    let words = read_registers();
     let value = words.value;
     Start {
         state: State {
