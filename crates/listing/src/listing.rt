@@ -8,6 +8,7 @@ use crate::text::with_word;
 use decktext::Reading;
 use machine::Ran;
 use machine::Registers;
+ghost use mathlib.Core.Path.{_≡_};
 ghost use Prim.Native.Nat.{_+_, _<_, _≤_};
 ghost use Rattle.machine.specs.Stops.{numberOf};
 ghost use Rattle.decktext.specs.Read.{saysReading, readText};
