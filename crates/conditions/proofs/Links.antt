@@ -77,19 +77,19 @@ module _ (d p : List ℕ) (journal : ℕ) where
     facts : Taken d p (x .state .registers) (x .state .used) (x .memory) journal e
     facts = decided-taken d p (x .state .registers) (x .state .used) (x .memory) journal e taken
 
-    checks : Held (length p) (x .state .registers) (x .state .used) (length (x .memory)) journal
+    checks : Held (length p) (x .state .registers .status) (x .state .used) (length (x .memory)) journal
     checks =
-        held (length p) (x .state .registers) (x .state .used) (length (x .memory)) journal
-        (entered (length p) (x .state .registers) (x .state .used) (length (x .memory)) journal (length d) (facts .entry) .1)
+        held (length p) (x .state .registers .status) (x .state .used) (length (x .memory)) journal
+        (entered (length p) (x .state .registers .status) (x .state .used) (length (x .memory)) journal (length d) (facts .entry) .1)
 
     -- what the record says
     abbrev before : Effect
     before = beforeOf (x .state .registers) (x .memory) e
 
-    still-held : heldStop (length p) (committed e x .state .registers) (committed e x .state .used) (length (committed e x .memory)) (length (committed e x .journal)) ≡ 0
+    still-held : heldStop (length p) (committed e x .state .registers .status) (committed e x .state .used) (length (committed e x .memory)) (length (committed e x .journal)) ≡ 0
     still-held =
         rw (memory-length (e .change) (x .memory), written-length (x .journal) (x .state .used) (encoded before), size)
-        (held-zero (length p) (committed e x .state .registers) (committed e x .state .used) (length (x .memory)) journal
+        (held-zero (length p) (committed e x .state .registers .status) (committed e x .state .used) (length (x .memory)) journal
         (record {
           memory-size = checks .memory-size;
           journal-size = checks .journal-size;

@@ -65,8 +65,8 @@ allowed-by e p memory =
 returning-by : (p : List ℕ) (s : State) (memory : ℕ) (j : List ℕ) → StopsBy BackStop (returning p s memory j)
 unfolding returning
 returning-by p s memory j =
-    checked-by BackStop (heldStop (length p) (s .registers) (s .used) memory (length j)) _
-    (held-number (length p) (s .registers) (s .used) memory (length j) (λ n. (n ≡ 0 → ⊥) → BackStop n) (λ z. absurd (z refl))
+    checked-by BackStop (heldStop (length p) (s .registers .status) (s .used) memory (length j)) _
+    (held-number (length p) (s .registers .status) (s .used) memory (length j) (λ n. (n ≡ 0 → ⊥) → BackStop n) (λ z. absurd (z refl))
     (λ z. record { some = omega arith; number = buffers }) (λ z. record { some = omega arith; number = state }))
     (provided-by BackStop (not (eqb (s .used) 0)) 14 _ (record { some = omega arith; number = nothing })
     (then-by BackStop (decoded (recordAt j (s .used - 1))) (λ e. allowed e p memory) (decoded-by _) (λ e. allowed-by e p memory)))

@@ -141,7 +141,7 @@ module _ (d p : List ℕ) (journal base : ℕ) where
   call-same step x es g v = onward-same x es g (λ y. outcome y 0 0) (λ u. outcome u 0 0) (λ y fs h. here y fs 0 0 h)
   call-same (run n) x es g v =
       rw (g .size, run-repeats d p journal n (trailOf x es))
-      (admitted-same (entryStop (length d) (length p) (x .state .registers) (x .state .used) (length (x .memory)) journal) x es g _ _ (repeated-same n x es g))
+      (admitted-same (entryStop (length d) (length p) (x .state .registers .status) (x .state .used) (length (x .memory)) journal) x es g _ _ (repeated-same n x es g))
   call-same back x es g v = back-same x es g v
 
   -- a list of calls from x and from a trail

@@ -49,11 +49,11 @@ abbrev pub judgedLast : List ℕ → List ℕ → ℕ → Trail → Answer Effec
 judgedLast d p journal t = decided d p (t .last .state .registers) (t .last .state .used) (t .last .memory) journal
 
 abbrev pub enteredLast : List ℕ → List ℕ → ℕ → Trail → ℕ
-enteredLast d p journal t = entryStop (length d) (length p) (t .last .state .registers) (t .last .state .used) (length (t .last .memory)) journal
+enteredLast d p journal t = entryStop (length d) (length p) (t .last .state .registers .status) (t .last .state .used) (length (t .last .memory)) journal
 
 -- the first of 2 and 3 that the table gives at an entry, or 0
 abbrev pub heldAt : List ℕ → ℕ → Entry → ℕ
-heldAt p journal x = heldStop (length p) (x .state .registers) (x .state .used) (length (x .memory)) journal
+heldAt p journal x = heldStop (length p) (x .state .registers .status) (x .state .used) (length (x .memory)) journal
 
 -- the last entry is dropped; with the start alone nothing is, and the answer is the first of 2, 3, 14
 abbrev pub dropped : List ℕ → ℕ → Entry → List Entry → Outcome Trail

@@ -56,30 +56,30 @@ module _ (p : List ℕ) (n a k : ℕ) where
 
   module _ (v : Verb) (w : Width) (o : Order) (g : Registers) (s : Sound v w o g p n a k) where
     -- a change of float registers
-    float-fine : (b : Words) (c : ℕ) → conditionFormed c ≡ true → Fine p n (nextEffect g (floatChange w (o .r1) b) c)
+    float-fine : (b : Words) (c : ℕ) → conditionFormed c ≡ true → Fine p n (nextEffect (g .status) (floatChange w (o .r1) b) c)
     unfolding registered placed guarded floatChange
     float-fine b c h = cases w
       where
-        cases : (u : Width) → Fine p n (nextEffect g (floatChange u (o .r1) b) c)
+        cases : (u : Width) → Fine p n (nextEffect (g .status) (floatChange u (o .r1) b) c)
         cases Width.Short = record { registers = le-leb (o .r1) 7 (s .first); there = refl; free = refl; condition = h; mask = s .mask }
         cases Width.Long = record { registers = le-leb (o .r1) 7 (s .first); there = refl; free = refl; condition = h; mask = s .mask }
 
     -- of one register
-    one-fine : (x c : ℕ) → conditionFormed c ≡ true → Fine p n (nextEffect g (Change.Float (o .r1) x) c)
+    one-fine : (x c : ℕ) → conditionFormed c ≡ true → Fine p n (nextEffect (g .status) (Change.Float (o .r1) x) c)
     unfolding registered placed guarded
     one-fine x c h = record { registers = le-leb (o .r1) 7 (s .first); there = refl; free = refl; condition = h; mask = s .mask }
 
-    general-fine : (x c : ℕ) → conditionFormed c ≡ true → Fine p n (nextEffect g (Change.General (o .r1) x) c)
+    general-fine : (x c : ℕ) → conditionFormed c ≡ true → Fine p n (nextEffect (g .status) (Change.General (o .r1) x) c)
     unfolding registered placed guarded
     general-fine x c h = record { registers = le-leb (o .r1) 7 (s .first); there = refl; free = refl; condition = h; mask = s .mask }
 
     -- of nothing but the condition code
-    code-fine : (c : ℕ) → conditionFormed c ≡ true → Fine p n (nextEffect g Change.Nothing c)
+    code-fine : (c : ℕ) → conditionFormed c ≡ true → Fine p n (nextEffect (g .status) Change.Nothing c)
     unfolding registered placed guarded
     code-fine c h = record { registers = refl; there = refl; free = refl; condition = h; mask = s .mask }
 
     -- a store of an operand of width u
-    storage-fine : (u : Width) (b : Words) → present (halfwords u) a n ≡ true → anyProtected p a (halfwords u) ≡ false → Fine p n (nextEffect g (storageChange u a b) (g .status .condition))
+    storage-fine : (u : Width) (b : Words) → present (halfwords u) a n ≡ true → anyProtected p a (halfwords u) ≡ false → Fine p n (nextEffect (g .status) (storageChange u a b) (g .status .condition))
     unfolding registered placed guarded storageChange present
     storage-fine Width.Short b t f = record { registers = refl; there = t; free = f; condition = s .condition; mask = s .mask }
     storage-fine Width.Long b t f = record { registers = refl; there = t; free = f; condition = s .condition; mask = s .mask }
@@ -88,15 +88,15 @@ module _ (p : List ℕ) (n a k : ℕ) where
   unfolding performed jumped countedDown registered placed guarded maskFits present
   effect-fine Verb.Load w o g b e s h = fine-is h (float-fine Verb.Load w o g s b _ (formed (conditions-set .operand w b)))
   effect-fine Verb.Complement w o g b e s h = fine-is h (float-fine Verb.Complement w o g s _ _ (formed (conditions-set .operand w _)))
-  effect-fine Verb.Compare w o g b e s h = fine-is h (code-fine Verb.Compare w o g s _ (formed (conditions-set .compare w (floatOperand w g (o .r1)) b)))
+  effect-fine Verb.Compare w o g b e s h = fine-is h (code-fine Verb.Compare w o g s _ (formed (conditions-set .compare w (floatOperand w (g .float) (o .r1)) b)))
   effect-fine Verb.Fix w o g b e s h =
-      let q = mapped-gives (fixedInto g (o .r1)) (toFixed (b .high)) h in
+      let q = mapped-gives (fixedInto (g .status) (o .r1)) (toFixed (b .high)) h in
       subst (λ (y : Effect). Fine p n y) (q .2) (general-fine Verb.Fix w o g s _ _ (formed (conditions-set .fixed (b .high) (q .0) (q .1))))
   effect-fine Verb.Float w o g b e s h = fine-is h (one-fine Verb.Float w o g s _ _ (formed (conditions-set .float (b .high))))
   effect-fine Verb.Divide w o g b e s h =
-      let q = mapped-gives (resultInto w g (o .r1)) (quotientWords w (eqb (g .status .mask) 1) (floatOperand w g (o .r1)) b) h in
+      let q = mapped-gives (resultInto w (g .status) (o .r1)) (quotientWords w (eqb (g .status .mask) 1) (floatOperand w (g .float) (o .r1)) b) h in
       subst (λ (y : Effect). Fine p n y) (q .2) (float-fine Verb.Divide w o g s (q .0) _ (s .condition))
-  effect-fine Verb.Store w o g b e s h = fine-is h (storage-fine Verb.Store w o g s w (floatOperand w g (o .r1)) (s .there) (s .free))
+  effect-fine Verb.Store w o g b e s h = fine-is h (storage-fine Verb.Store w o g s w (floatOperand w (g .float) (o .r1)) (s .there) (s .free))
   effect-fine Verb.LoadGeneral w o g b e s h = fine-is h (general-fine Verb.LoadGeneral w o g s _ _ (formed (conditions-set .general (b .high))))
   effect-fine Verb.StoreGeneral w o g b e s h =
       fine-is h (record { registers = refl; there = s .there; free = s .free; condition = s .condition; mask = s .mask })

@@ -44,12 +44,12 @@ performed-by Verb.Load w o g a b = tt
 performed-by Verb.Complement w o g a b = tt
 performed-by Verb.Compare w o g a b = tt
 performed-by Verb.Fix w o g a b =
-    mapped-by StepNumber (fixedInto g (o .r1)) (toFixed (b .high)) (numbered-by StepNumber (numbered (omega arith) (omega arith)) (stops-numbered .fixed (b .high)))
+    mapped-by StepNumber (fixedInto (g .status) (o .r1)) (toFixed (b .high)) (numbered-by StepNumber (numbered (omega arith) (omega arith)) (stops-numbered .fixed (b .high)))
 performed-by Verb.Float w o g a b = tt
 performed-by Verb.Divide w o g a b =
     let mask = eqb (g .status .mask) 1 in
-    mapped-by StepNumber (resultInto w g (o .r1)) (quotientWords w mask (floatOperand w g (o .r1)) b)
-    (numbered-by StepNumber (numbered (omega arith) (omega arith)) (stops-numbered .quotient w mask (floatOperand w g (o .r1)) b))
+    mapped-by StepNumber (resultInto w (g .status) (o .r1)) (quotientWords w mask (floatOperand w (g .float) (o .r1)) b)
+    (numbered-by StepNumber (numbered (omega arith) (omega arith)) (stops-numbered .quotient w mask (floatOperand w (g .float) (o .r1)) b))
 performed-by Verb.Store w o g a b = tt
 performed-by Verb.LoadGeneral w o g a b = tt
 performed-by Verb.StoreGeneral w o g a b = tt
@@ -63,9 +63,9 @@ unfolding judged effectOf
 judged-by o g used p m journal op =
     provided-by StepNumber (not (isHalt (op .verb))) 12 _ (number 12 (omega arith) (omega arith))
     (provided-by StepNumber (ltb used (journal / 4)) 13 _ (number 13 (omega arith) (omega arith))
-    (provided-by StepNumber (present (spanOf op) (addressOf o g) (length m)) 6 _ (number 6 (omega arith) (omega arith))
-    (provided-by StepNumber (not (anyProtected p (addressOf o g) (storedOf op))) 7 _ (number 7 (omega arith) (omega arith))
-    (performed-by (op .verb) (op .width) o g (addressOf o g) (secondOperand (op .place) (op .width) o g m)))))
+    (provided-by StepNumber (present (spanOf op) (addressOf o (g .general)) (length m)) 6 _ (number 6 (omega arith) (omega arith))
+    (provided-by StepNumber (not (anyProtected p (addressOf o (g .general)) (storedOf op))) 7 _ (number 7 (omega arith) (omega arith))
+    (performed-by (op .verb) (op .width) o g (addressOf o (g .general)) (secondOperand (op .place) (op .width) o (g .float) (g .general) m)))))
 
 among-by : (ops : List Operation) (k n : ℕ) → StopsBy StepNumber (rowAmong ops k n)
 unfolding rowAmong
@@ -82,7 +82,7 @@ pub decided-by : (d p : List ℕ) (g : Registers) (used : ℕ) (m : List ℕ) (j
 unfolding decided
 decided-by d p g used m journal =
     let o = orderAt d (g .status .pointer) in
-    let k = entryStop (length d) (length p) g used (length m) journal in
-    checked-by StepNumber k _ (λ z. record { some = omega arith; most = omega (arith, entry-number (length p) g used (length m) journal (length d)) })
+    let k = entryStop (length d) (length p) (g .status) used (length m) journal in
+    checked-by StepNumber k _ (λ z. record { some = omega arith; most = omega (arith, entry-number (length p) (g .status) used (length m) journal (length d)) })
     (provided-by StepNumber (ltb (g .status .pointer) (length d / 4)) 4 _ (number 4 (omega arith) (omega arith))
     (then-by StepNumber (legalOf o) (judged o g used p m journal) (legal-by o) (judged-by o g used p m journal)))

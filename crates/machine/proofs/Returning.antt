@@ -21,7 +21,7 @@ use Rattle.machine.specs.Status.{conditionFormed, unpacked}
 use Rattle.machine.proofs.Answers.{gives-inj, never, provided-gives, checked-gives, mapped-gives, then-gives}
 
 pub record Returned (p : List ℕ) (s : State) (memory : ℕ) (journal : ℕ) (e : Effect) : Type 0 where
-  pub held : heldStop (length p) (s .registers) (s .used) memory journal ≡ 0
+  pub held : heldStop (length p) (s .registers .status) (s .used) memory journal ≡ 0
   pub used : 1 ≤ s .used
   pub registers : registered (e .change) ≡ true
   pub there : placed (e .change) memory ≡ true
@@ -113,7 +113,7 @@ module _ (p : List ℕ) (memory : ℕ) where
   pub returning-gives : (s : State) (j : List ℕ) (e : Effect) → returning p s memory j ≡ gives e → Returned p s memory (length j) e
   unfolding returning
   returning-gives s j e h =
-      let k = checked-gives (heldStop (length p) (s .registers) (s .used) memory (length j)) _ h in
+      let k = checked-gives (heldStop (length p) (s .registers .status) (s .used) memory (length j)) _ h in
       let l = provided-gives (not (eqb (s .used) 0)) 14 _ (k .1) in
       let t = then-gives (decoded (recordAt j (s .used - 1))) (λ x. allowed x p memory) (l .1) in
       let a = allowed-gives (t .0) e (t .2) in

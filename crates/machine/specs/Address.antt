@@ -1,7 +1,8 @@
 -- The address of the storage operand (document 01, 'Orders': S is the storage operand at `at`).
 use Prim.Native.Nat.{ℕ}
+use mathlib.Core.List.{List}
 use Rattle.machine.specs.declared.order.Order.{Order}
-use Rattle.machine.specs.declared.state.Registers.{Registers}
 
-abbrev pub addressOf : Order → Registers → ℕ
-addressOf o g = o .at
+-- the general registers do not enter it yet
+abbrev pub addressOf : Order → List ℕ → ℕ
+addressOf o n = o .at

@@ -21,7 +21,7 @@ allowed e p memory = provided (placed (e .change) memory) 15 (provided (not (gua
 -- what record used - 1 puts back
 unfoldable pub returning : List ℕ → State → ℕ → List ℕ → Answer Effect
 returning p s memory j =
-    checked (heldStop (length p) (s .registers) (s .used) memory (length j))
+    checked (heldStop (length p) (s .registers .status) (s .used) memory (length j))
     (provided (not (eqb (s .used) 0)) 14
     (andThen (decoded (recordAt j (s .used - 1))) (λ e. allowed e p memory)))
 

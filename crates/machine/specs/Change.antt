@@ -59,9 +59,9 @@ storageChange Width.Long at a = fourOf at a
 -- the same places with their present contents
 unfoldable pub oldOf : Registers → List ℕ → Change → Change
 oldOf g m Change.Nothing = Change.Nothing
-oldOf g m (Change.Float r w) = Change.Float r (floatAt g r)
-oldOf g m (Change.Pair r hi lo) = pairOf r (floatPair g r)
-oldOf g m (Change.General r w) = Change.General r (generalAt g r)
+oldOf g m (Change.Float r w) = Change.Float r (floatAt (g .float) r)
+oldOf g m (Change.Pair r hi lo) = pairOf r (floatPair (g .float) r)
+oldOf g m (Change.General r w) = Change.General r (generalAt (g .general) r)
 oldOf g m (Change.Two a w) = Change.Two a (wordAt m a)
 oldOf g m (Change.Four a hi lo) = fourOf a (longAt m a)
 

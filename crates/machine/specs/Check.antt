@@ -2,7 +2,7 @@
 use Prim.Native.Nat.{ℕ, _+_, _/_, _%_}
 use mathlib.Core.Bool.{Bool, _&&_, _||_}
 use lib.Dec.{eqb, leb}
-use Rattle.machine.specs.declared.state.Registers.{Registers}
+use Rattle.machine.specs.declared.state.Status.{Status}
 use Rattle.machine.specs.Protect.{coverOf}
 use Rattle.machine.specs.Status.{statusFormed}
 
@@ -15,8 +15,8 @@ unfoldable pub buffersSized : ℕ → ℕ → ℕ → Bool
 buffersSized protect memory journal = leb memory 32768 && (leb journal 16384 && eqb protect (coverOf memory))
 
 -- 3: condition code and mask are of the form, and no more records in use than the journal has room for
-unfoldable pub stateFormed : Registers → ℕ → ℕ → Bool
-stateFormed g used journal = statusFormed (g .status) && leb used (journal / 4)
+unfoldable pub stateFormed : Status → ℕ → ℕ → Bool
+stateFormed s used journal = statusFormed s && leb used (journal / 4)
 
 -- 6: no part of `span` halfwords from `at` is past memory's end
 unfoldable pub present : ℕ → ℕ → ℕ → Bool

@@ -9,6 +9,7 @@ use Rattle.hexfloat.specs.Answer.{Answer}
 use Rattle.machine.specs.declared.order.Operation.{Operation}
 use Rattle.machine.specs.declared.order.Order.{Order}
 use Rattle.machine.specs.declared.state.Registers.{Registers}
+use Rattle.machine.specs.declared.state.Status.{Status}
 use Rattle.machine.specs.declared.verdict.Effect.{Effect}
 use Rattle.machine.specs.Address.{addressOf}
 use Rattle.machine.specs.Check.{deckSized, buffersSized, stateFormed, present}
@@ -17,21 +18,21 @@ use Rattle.machine.specs.Order.{orderAt, legalOf, spanOf, storedOf, isHa
 use Rattle.machine.specs.Protect.{coverOf, anyProtected}
 use Rattle.machine.specs.Says.{provided, checked, andThen}
 
--- the first of 2 and 3 that the table gives for these lengths, these registers and this used count, or 0
-unfoldable pub heldStop : ℕ → Registers → ℕ → ℕ → ℕ → ℕ
-heldStop protect g used memory journal = cond (buffersSized protect memory journal) (cond (stateFormed g used journal) 0 3) 2
+-- the first of 2 and 3 that the table gives for these lengths, this status and this used count, or 0
+unfoldable pub heldStop : ℕ → Status → ℕ → ℕ → ℕ → ℕ
+heldStop protect s used memory journal = cond (buffersSized protect memory journal) (cond (stateFormed s used journal) 0 3) 2
 
 -- the first of 1, 2 and 3, or 0
-unfoldable pub entryStop : ℕ → ℕ → Registers → ℕ → ℕ → ℕ → ℕ
-entryStop deck protect g used memory journal = cond (deckSized deck) (heldStop protect g used memory journal) 1
+unfoldable pub entryStop : ℕ → ℕ → Status → ℕ → ℕ → ℕ → ℕ
+entryStop deck protect s used memory journal = cond (deckSized deck) (heldStop protect s used memory journal) 1
 
 -- checks 12, 13, 6 and 7 of a legal order, then its effect
 unfoldable pub judged : Order → Registers → ℕ → List ℕ → List ℕ → ℕ → Operation → Answer Effect
 judged o g used p m journal op =
     provided (not (isHalt (op .verb))) 12
     (provided (ltb used (journal / 4)) 13
-    (provided (present (spanOf op) (addressOf o g) (length m)) 6
-    (provided (not (anyProtected p (addressOf o g) (storedOf op))) 7
+    (provided (present (spanOf op) (addressOf o (g .general)) (length m)) 6
+    (provided (not (anyProtected p (addressOf o (g .general)) (storedOf op))) 7
     (effectOf op o g m))))
 
 abbrev pub judgedAt : Order → Registers → ℕ → List ℕ → List ℕ → ℕ → Answer Effect
@@ -40,7 +41,7 @@ judgedAt o g used p m journal = andThen (legalOf o) (judged o g used p m journal
 -- the journal enters by its length alone
 unfoldable pub decided : List ℕ → List ℕ → Registers → ℕ → List ℕ → ℕ → Answer Effect
 decided d p g used m journal =
-    checked (entryStop (length d) (length p) g used (length m) journal)
+    checked (entryStop (length d) (length p) (g .status) used (length m) journal)
     (provided (ltb (g .status .pointer) (length d / 4)) 4
     (judgedAt (orderAt d (g .status .pointer)) g used p m journal))
 

@@ -7,17 +7,18 @@ use Rattle.hexfloat.specs.declared.word.Words.{Words}
 use Rattle.hexfloat.specs.Word.{shortWords}
 use Rattle.machine.specs.declared.order.Order.{Order}
 use Rattle.machine.specs.declared.order.Place.{Place}
-use Rattle.machine.specs.declared.state.Registers.{Registers}
 use Rattle.machine.specs.Address.{addressOf}
 
-abbrev pub floatAt : Registers → ℕ → ℕ
-floatAt g r = getD (g .float) r 0
+-- a float register among the eight
+abbrev pub floatAt : List ℕ → ℕ → ℕ
+floatAt f r = getD f r 0
 
-abbrev pub floatPair : Registers → ℕ → Words
-floatPair g r = record { high = floatAt g r; low = floatAt g ((r + 1) % 8) }
+abbrev pub floatPair : List ℕ → ℕ → Words
+floatPair f r = record { high = floatAt f r; low = floatAt f ((r + 1) % 8) }
 
-abbrev pub generalAt : Registers → ℕ → ℕ
-generalAt g r = getD (g .general) r 0
+-- a general register among the eight
+abbrev pub generalAt : List ℕ → ℕ → ℕ
+generalAt n r = getD n r 0
 
 abbrev pub wordAt : List ℕ → ℕ → ℕ
 wordAt m a = getD m a 0 * 65536 + getD m (a + 1) 0
@@ -26,18 +27,18 @@ abbrev pub longAt : List ℕ → ℕ → Words
 longAt m a = record { high = wordAt m a; low = wordAt m (a + 2) }
 
 -- R r, or pair r
-unfoldable pub floatOperand : Width → Registers → ℕ → Words
-floatOperand Width.Short g r = shortWords (floatAt g r)
-floatOperand Width.Long g r = floatPair g r
+unfoldable pub floatOperand : Width → List ℕ → ℕ → Words
+floatOperand Width.Short f r = shortWords (floatAt f r)
+floatOperand Width.Long f r = floatPair f r
 
 -- S
 unfoldable pub storageOperand : Width → List ℕ → ℕ → Words
 storageOperand Width.Short m a = shortWords (wordAt m a)
 storageOperand Width.Long m a = longAt m a
 
--- the second operand of an order
-unfoldable pub secondOperand : Place → Width → Order → Registers → List ℕ → Words
-secondOperand Place.Nowhere w o g m = shortWords 0
-secondOperand Place.FloatRegister w o g m = floatOperand w g (o .r2)
-secondOperand Place.GeneralRegister w o g m = shortWords (generalAt g (o .r2))
-secondOperand Place.Storage w o g m = storageOperand w m (addressOf o g)
+-- the second operand of an order, from float registers, general registers or memory
+unfoldable pub secondOperand : Place → Width → Order → List ℕ → List ℕ → List ℕ → Words
+secondOperand Place.Nowhere w o f n m = shortWords 0
+secondOperand Place.FloatRegister w o f n m = floatOperand w f (o .r2)
+secondOperand Place.GeneralRegister w o f n m = shortWords (generalAt n (o .r2))
+secondOperand Place.Storage w o f n m = storageOperand w m (addressOf o n)

@@ -20,7 +20,7 @@ abbrev pub admitted : {W : Type 0} → ℕ → W → Outcome W → Outcome W
 admitted k x rest = cond (eqb k 0) rest (outcome x 0 k)
 
 abbrev pub entryOf : List ℕ → List ℕ → Machine → ℕ
-entryOf d p x = entryStop (length d) (length p) (x .state .registers) (x .state .used) (length (x .memory)) (length (x .journal))
+entryOf d p x = entryStop (length d) (length p) (x .state .registers .status) (x .state .used) (length (x .memory)) (length (x .journal))
 
 unfoldable pub ran : List ℕ → List ℕ → ℕ → Machine → Outcome Machine
 ran d p limit x = admitted (entryOf d p x) x (repeated (verdictOf d p) (λ y e. committed e y) limit x)

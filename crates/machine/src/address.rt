@@ -1,12 +1,11 @@
 // The address of the storage operand.
 use crate::order::Order;
-use crate::state::Registers;
 ghost use mathlib.Core.Path.{_≡_};
 ghost use Rattle.machine.specs.Address.{addressOf};
 
 // The address of S: the one place that computes it.
-pub fn address(o: Order, g: Registers) -> u32
-    ensures { λ r. ⌜ r ≡ addressOf o g ⌝ }
+pub fn address(o: Order, general: &[u32; 8]) -> u32
+    ensures { λ r. ⌜ r ≡ addressOf o (now (general .entry)) ⌝ }
 {
     o.at as u32
 }

@@ -1,5 +1,4 @@
 // Checks 1, 2, 3, 6 and 7.
-use crate::state::Registers;
 use crate::state::Status;
 ghost use mathlib.Core.Path.{_≡_};
 ghost use mathlib.Core.Bool.{true};
@@ -66,11 +65,10 @@ fn status_formed(s: Status) -> bool
 }
 
 // Check 3.
-pub fn state_formed(g: Registers, used: u32, journal: usize) -> bool
-    ensures { λ r. ⌜ r ≡ stateFormed g used journal ⌝ }
+pub fn state_formed(s: Status, used: u32, journal: usize) -> bool
+    ensures { λ r. ⌜ r ≡ stateFormed s used journal ⌝ }
 {
-    let status = g.status;
-    if !status_formed(status) {
+    if !status_formed(s) {
         return false;
     }
     used as usize <= journal / 4

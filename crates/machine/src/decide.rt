@@ -14,24 +14,25 @@ use crate::order::legal;
 use crate::order::order_at;
 use crate::order::span;
 use crate::order::stored;
-use crate::state::Registers;
+use crate::state::Status;
 use crate::stop::Stop;
 use crate::stop::number;
 use crate::verdict::Verdict;
 ghost use mathlib.Core.Path.{_≡_};
 ghost use lib.ListN.{length};
 ghost use Rattle.machine.specs.Decide.{heldStop, entryStop, judged, decided, Judgeable};
+ghost use Rattle.machine.specs.Machine.{registers};
 ghost use Rattle.machine.specs.Stops.{numberOf};
 ghost use Rattle.machine.specs.Says.{says};
 
 // Checks 2 and 3: `Taken` where both pass.
-pub fn held(g: Registers, used: u32, protect: usize, memory: usize, journal: usize) -> Stop
-    ensures { λ r. ⌜ numberOf r ≡ heldStop protect g used memory journal ⌝ }
+pub fn held(s: Status, used: u32, protect: usize, memory: usize, journal: usize) -> Stop
+    ensures { λ r. ⌜ numberOf r ≡ heldStop protect s used memory journal ⌝ }
 {
     if !buffers_sized(protect, memory, journal) {
         return Stop::BufferSize;
     }
-    if !state_formed(g, used, journal) {
+    if !state_formed(s, used, journal) {
         return Stop::StateForm;
     }
     Stop::Taken
@@ -39,34 +40,36 @@ pub fn held(g: Registers, used: u32, protect: usize, memory: usize, journal: usi
 
 // Checks 1 to 3: `Taken` where all pass.
 pub fn entry(
-    g: Registers,
+    s: Status,
     used: u32,
     deck: usize,
     protect: usize,
     memory: usize,
     journal: usize,
 ) -> Stop
-    ensures { λ r. ⌜ numberOf r ≡ entryStop deck protect g used memory journal ⌝ }
+    ensures { λ r. ⌜ numberOf r ≡ entryStop deck protect s used memory journal ⌝ }
 {
     if !deck_sized(deck) {
         return Stop::DeckSize;
     }
-    held(g, used, protect, memory, journal)
+    held(s, used, protect, memory, journal)
 }
 
 // Checks 12, 13, 6 and 7 of a legal order, then its effect.
 fn judge(
     op: Operation,
     o: Order,
-    g: Registers,
+    float: &[u32; 8],
+    general: &[u32; 8],
+    status: Status,
     used: u32,
     memory: &[u16],
     protect: &[u8],
     journal: usize,
 ) -> Verdict
-    requires { ⌜ Judgeable op o g (length (now protect)) (length (now memory)) ⌝ }
+    requires { ⌜ Judgeable op o (registers (now float) (now general) status) (length (now protect)) (length (now memory)) ⌝ }
     ensures { λ v. ⌜ says v
-        ≡ judged o g used (now (protect .entry)) (now (memory .entry)) journal op ⌝ }
+        ≡ judged o (registers (now (float .entry)) (now (general .entry)) status) used (now (protect .entry)) (now (memory .entry)) journal op ⌝ }
 {
     let verb = op.verb;
     let full = used as usize >= journal / 4;
@@ -76,19 +79,21 @@ fn judge(
     if full {
         return Verdict::Refused(Stop::JournalFull);
     }
-    let at = address(o, g);
+    let at = address(o, general);
     if !is_present(span(op), at, memory.len()) {
         return Verdict::Refused(Stop::AbsentStorage);
     }
     if any_protected(protect, at, stored(op)) {
         return Verdict::Refused(Stop::ProtectedStorage);
     }
-    effect(op, o, g, memory)
+    effect(op, o, float, general, status, memory)
 }
 
 // Every check, or the step's effect.
-pub fn decide(
-    g: Registers,
+pub fn decide<'a>(
+    float: &'a [u32; 8],
+    general: &'a [u32; 8],
+    status: Status,
     used: u32,
     deck: &[u16],
     memory: &[u16],
@@ -96,13 +101,20 @@ pub fn decide(
     journal: usize,
 ) -> Verdict
     ensures { λ v. ⌜ says v
-        ≡ decided (now (deck .entry)) (now (protect .entry)) g used (now (memory .entry)) journal ⌝ }
+        ≡ decided (now (deck .entry)) (now (protect .entry)) (registers (now (float .entry)) (now (general .entry)) status) used (now (memory .entry)) journal ⌝ }
 {
-    let k = entry(g, used, deck.len(), protect.len(), memory.len(), journal);
+    let k = entry(
+        status,
+        used,
+        deck.len(),
+        protect.len(),
+        memory.len(),
+        journal,
+    );
     if number(k) != 0 {
         return Verdict::Refused(k);
     }
-    let p = g.status.pointer as usize;
+    let p = status.pointer as usize;
     if p >= deck.len() / 4 {
         return Verdict::Refused(Stop::PointerPast);
     }
@@ -110,6 +122,16 @@ pub fn decide(
     let checked = legal(o);
     match checked {
         Legality::Illegal => Verdict::Refused(Stop::IllegalOrder),
-        Legality::Legal(op) => judge(op, o, g, used, memory, protect, journal),
+        Legality::Legal(op) => judge(
+            op,
+            o,
+            float,
+            general,
+            status,
+            used,
+            memory,
+            protect,
+            journal,
+        ),
     }
 }

@@ -12,7 +12,6 @@ use crate::operand::second_operand;
 use crate::order::Operation;
 use crate::order::Order;
 use crate::order::Verb;
-use crate::state::Registers;
 use crate::state::Status;
 use crate::stop::Stop;
 use crate::verdict::Effect;
@@ -39,26 +38,27 @@ ghost use Rattle.machine.specs.Effect.{
   effectOf,
   Ready,
 };
+ghost use Rattle.machine.specs.Machine.{registers};
 ghost use Rattle.machine.specs.Says.{says};
 
 // A taken step of this change and condition code: the mask stays and the pointer moves on by one.
-fn granted(g: Registers, change: Change, condition: u8) -> Verdict
-    requires { ⌜ g .status .pointer + 1 < 65536 ⌝ }
-    ensures { λ v. ⌜ says v ≡ gives (nextEffect g change condition) ⌝ }
+fn granted(s: Status, change: Change, condition: u8) -> Verdict
+    requires { ⌜ s .pointer + 1 < 65536 ⌝ }
+    ensures { λ v. ⌜ says v ≡ gives (nextEffect s change condition) ⌝ }
 {
     let status = Status {
         condition,
-        mask: g.status.mask,
-        pointer: g.status.pointer + 1,
+        mask: s.mask,
+        pointer: s.pointer + 1,
     };
     Verdict::Granted(Effect { change, status })
 }
 
-fn load(width: Width, g: Registers, r: u32, b: Words) -> Verdict
-    requires { ⌜ g .status .pointer + 1 < 65536 ⌝ }
-    ensures { λ v. ⌜ says v ≡ gives (loaded width g r b) ⌝ }
+fn load(width: Width, s: Status, r: u32, b: Words) -> Verdict
+    requires { ⌜ s .pointer + 1 < 65536 ⌝ }
+    ensures { λ v. ⌜ says v ≡ gives (loaded width s r b) ⌝ }
 {
-    granted(g, float_change(width, r, b), hexfloat::condition(width, b))
+    granted(s, float_change(width, r, b), hexfloat::condition(width, b))
 }
 
 fn complement(b: Words) -> Words
@@ -70,56 +70,54 @@ fn complement(b: Words) -> Words
     }
 }
 
-fn compare(width: Width, g: Registers, r: u32, b: Words) -> Verdict
-    requires { ⌜ (g .status .pointer + 1 < 65536) × (r ≤ 7) ⌝ }
-    ensures { λ v. ⌜ says v ≡ gives (comparedWith width g r b) ⌝ }
+fn compare(width: Width, s: Status, a: Words, b: Words) -> Verdict
+    requires { ⌜ s .pointer + 1 < 65536 ⌝ }
+    ensures { λ v. ⌜ says v ≡ gives (comparedWith width s a b) ⌝ }
 {
-    let a = float_operand(width, g, r);
-    granted(g, Change::Nothing, hexfloat::compare(width, a, b))
+    granted(s, Change::Nothing, hexfloat::compare(width, a, b))
 }
 
 // CVFX.
-fn fix(g: Registers, r: u32, w: u32) -> Verdict
-    requires { ⌜ g .status .pointer + 1 < 65536 ⌝ }
-    ensures { λ v. ⌜ says v ≡ mapped (fixedInto g r) (toFixed w) ⌝ }
+fn fix(s: Status, r: u32, w: u32) -> Verdict
+    requires { ⌜ s .pointer + 1 < 65536 ⌝ }
+    ensures { λ v. ⌜ says v ≡ mapped (fixedInto s r) (toFixed w) ⌝ }
 {
     let f = hexfloat::to_fixed(w);
     match f {
-        Fixed::Word(c) => granted(g, Change::General(r, c.word), c.condition),
+        Fixed::Word(c) => granted(s, Change::General(r, c.word), c.condition),
         Fixed::Overflow => Verdict::Refused(Stop::ConvertOverflow),
     }
 }
 
-fn divide(width: Width, g: Registers, r: u32, b: Words) -> Verdict
-    requires { ⌜ (g .status .pointer + 1 < 65536) × (r ≤ 7) ⌝ }
-    ensures { λ v. ⌜ says v ≡ divided width g r b ⌝ }
+fn divide(width: Width, s: Status, r: u32, a: Words, b: Words) -> Verdict
+    requires { ⌜ s .pointer + 1 < 65536 ⌝ }
+    ensures { λ v. ⌜ says v ≡ divided width s r a b ⌝ }
 {
-    let a = float_operand(width, g, r);
-    let q = hexfloat::divide(width, g.status.mask == 1, a, b);
+    let q = hexfloat::divide(width, s.mask == 1, a, b);
     match q {
-        Result::Number(a) => granted(g, float_change(width, r, a), g.status.condition),
+        Result::Number(a) => granted(s, float_change(width, r, a), s.condition),
         Result::ZeroDivisor => Verdict::Refused(Stop::ZeroDivisor),
         Result::Overflow => Verdict::Refused(Stop::Overflow),
         Result::Underflow => Verdict::Refused(Stop::Underflow),
     }
 }
 
-fn load_general(g: Registers, r: u32, w: u32) -> Verdict
-    requires { ⌜ g .status .pointer + 1 < 65536 ⌝ }
-    ensures { λ v. ⌜ says v ≡ gives (loadedGeneral g r w) ⌝ }
+fn load_general(s: Status, r: u32, w: u32) -> Verdict
+    requires { ⌜ s .pointer + 1 < 65536 ⌝ }
+    ensures { λ v. ⌜ says v ≡ gives (loadedGeneral s r w) ⌝ }
 {
-    granted(g, Change::General(r, w), hexfloat::general_condition(w))
+    granted(s, Change::General(r, w), hexfloat::general_condition(w))
 }
 
 // UM.
-fn set_mask(g: Registers, mask: u16) -> Verdict
-    requires { ⌜ (g .status .pointer + 1 < 65536) × (mask < 256) ⌝ }
-    ensures { λ v. ⌜ says v ≡ gives (masked g mask) ⌝ }
+fn set_mask(s: Status, mask: u16) -> Verdict
+    requires { ⌜ (s .pointer + 1 < 65536) × (mask < 256) ⌝ }
+    ensures { λ v. ⌜ says v ≡ gives (masked s mask) ⌝ }
 {
     let status = Status {
-        condition: g.status.condition,
+        condition: s.condition,
         mask: mask as u8,
-        pointer: g.status.pointer + 1,
+        pointer: s.pointer + 1,
     };
     Verdict::Granted(Effect {
         change: Change::Nothing,
@@ -127,45 +125,64 @@ fn set_mask(g: Registers, mask: u16) -> Verdict
     })
 }
 
-// An order whose second operand is b; S, if it has one, is at `at`.
-fn perform(verb: Verb, width: Width, o: Order, g: Registers, at: u32, b: Words) -> Verdict
-    requires { ⌜ (g .status .pointer + 1 < 65536) × (o .r1 ≤ 7) × (o .r2 ≤ 7) ⌝ }
-    ensures { λ v. ⌜ says v ≡ performed verb width o g at b ⌝ }
+// An order whose second operand is b; S, if it has one, is at `at`. The registers are lent all the way
+// down to where a word is read: a copy of a set that was just stored to is slow.
+fn perform(
+    verb: Verb,
+    width: Width,
+    o: Order,
+    float: &[u32; 8],
+    general: &[u32; 8],
+    status: Status,
+    at: u32,
+    b: Words,
+) -> Verdict
+    requires { ⌜ (status .pointer + 1 < 65536) × (o .r1 ≤ 7) × (o .r2 ≤ 7) ⌝ }
+    ensures { λ v. ⌜ says v ≡ performed verb width o (registers (now (float .entry)) (now (general .entry)) status) at b ⌝ }
 {
     let r = o.r1 as u32;
-    let condition = g.status.condition;
+    let condition = status.condition;
     match verb {
-        Verb::Load => load(width, g, r, b),
-        Verb::Complement => load(width, g, r, complement(b)),
-        Verb::Compare => compare(width, g, r, b),
-        Verb::Fix => fix(g, r, b.high),
+        Verb::Load => load(width, status, r, b),
+        Verb::Complement => load(width, status, r, complement(b)),
+        Verb::Compare => compare(width, status, float_operand(width, float, r), b),
+        Verb::Fix => fix(status, r, b.high),
         Verb::Float => {
             let c = hexfloat::to_float(b.high);
-            granted(g, Change::Float(r, c.word), c.condition)
+            granted(status, Change::Float(r, c.word), c.condition)
         }
-        Verb::Divide => divide(width, g, r, b),
+        Verb::Divide => divide(width, status, r, float_operand(width, float, r), b),
         Verb::Store => {
-            let a = float_operand(width, g, r);
-            granted(g, storage_change(width, at, a), condition)
+            let a = float_operand(width, float, r);
+            granted(status, storage_change(width, at, a), condition)
         }
-        Verb::LoadGeneral => load_general(g, r, b.high),
-        Verb::StoreGeneral => granted(g, Change::Two(at, general_at(g, r)), condition),
-        Verb::SetMask => set_mask(g, o.r2),
-        Verb::Jump => jump(g, r, o.at),
-        Verb::CountDown => count_down(g, r, o.at),
+        Verb::LoadGeneral => load_general(status, r, b.high),
+        Verb::StoreGeneral => {
+            granted(status, Change::Two(at, general_at(general, r)), condition)
+        }
+        Verb::SetMask => set_mask(status, o.r2),
+        Verb::Jump => jump(status, r, o.at),
+        Verb::CountDown => count_down(status, r, general_at(general, r), o.at),
         Verb::Halt => Verdict::Refused(Stop::Halted),
     }
 }
 
 // Checks 8 to 11, or the effect. All operands are read here, before anything is written.
-pub fn effect(op: Operation, o: Order, g: Registers, memory: &[u16]) -> Verdict
-    requires { ⌜ Ready op o g (length (now memory)) ⌝ }
-    ensures { λ v. ⌜ says v ≡ effectOf op o g (now (memory .entry)) ⌝ }
+pub fn effect(
+    op: Operation,
+    o: Order,
+    float: &[u32; 8],
+    general: &[u32; 8],
+    status: Status,
+    memory: &[u16],
+) -> Verdict
+    requires { ⌜ Ready op o (registers (now float) (now general) status) (length (now memory)) ⌝ }
+    ensures { λ v. ⌜ says v ≡ effectOf op o (registers (now (float .entry)) (now (general .entry)) status) (now (memory .entry)) ⌝ }
 {
     let verb = op.verb;
     let width = op.width;
     let place = op.place;
-    let at = address(o, g);
-    let b = second_operand(place, width, o, g, at, memory);
-    perform(verb, width, o, g, at, b)
+    let at = address(o, general);
+    let b = second_operand(place, width, o, float, general, at, memory);
+    perform(verb, width, o, float, general, status, at, b)
 }

@@ -1,12 +1,10 @@
 // JC and JN.
 use crate::change::Change;
-use crate::operand::general_at;
-use crate::state::Registers;
 use crate::state::Status;
 use crate::verdict::Effect;
 use crate::verdict::Verdict;
 ghost use mathlib.Core.Path.{_≡_};
-ghost use Prim.Native.Nat.{_+_, _<_, _≤_};
+ghost use Prim.Native.Nat.{_+_, _<_};
 ghost use Rattle.hexfloat.specs.Answer.{gives};
 ghost use Rattle.machine.specs.Jump.{jumps, jumpedTo, jumped, oneLess, countedDown};
 ghost use Rattle.machine.specs.Says.{says};
@@ -37,11 +35,10 @@ fn moved(s: Status, jump: bool, at: u16) -> Status
     }
 }
 
-pub fn jump(g: Registers, bits: u32, at: u16) -> Verdict
-    requires { ⌜ g .status .pointer + 1 < 65536 ⌝ }
-    ensures { λ v. ⌜ says v ≡ gives (jumped g bits at) ⌝ }
+pub fn jump(s: Status, bits: u32, at: u16) -> Verdict
+    requires { ⌜ s .pointer + 1 < 65536 ⌝ }
+    ensures { λ v. ⌜ says v ≡ gives (jumped s bits at) ⌝ }
 {
-    let s = g.status;
     Verdict::Granted(Effect {
         change: Change::Nothing,
         status: moved(s, is_set(bits, s.condition), at),
@@ -55,15 +52,14 @@ fn one_less(n: u32) -> u32
     std::num::wrapping_sub_u32(n, 1)
 }
 
-// JN.
-pub fn count_down(g: Registers, r: u32, at: u16) -> Verdict
-    requires { ⌜ (g .status .pointer + 1 < 65536) × (r ≤ 7) ⌝ }
-    ensures { λ v. ⌜ says v ≡ gives (countedDown g r at) ⌝ }
+// JN, where G r holds w.
+pub fn count_down(s: Status, r: u32, w: u32, at: u16) -> Verdict
+    requires { ⌜ s .pointer + 1 < 65536 ⌝ }
+    ensures { λ v. ⌜ says v ≡ gives (countedDown s r w at) ⌝ }
 {
-    let s = g.status;
-    let w = one_less(general_at(g, r));
+    let less = one_less(w);
     Verdict::Granted(Effect {
-        change: Change::General(r, w),
-        status: moved(s, w != 0, at),
+        change: Change::General(r, less),
+        status: moved(s, less != 0, at),
     })
 }

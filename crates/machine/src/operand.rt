@@ -1,7 +1,6 @@
 // Operands: registers, pairs and storage.
 use crate::order::Order;
 use crate::order::Place;
-use crate::state::Registers;
 use hexfloat::Width;
 use hexfloat::Words;
 ghost use mathlib.Core.Path.{_≡_};
@@ -14,29 +13,29 @@ ghost use Rattle.machine.specs.Operand.{floatAt, floatPair, generalAt, w
 ghost use Rattle.machine.specs.Order.{halfwords, spanAs};
 ghost use Rattle.machine.specs.Check.{present};
 
-pub fn float_at(g: Registers, r: u32) -> u32
+pub fn float_at(float: &[u32; 8], r: u32) -> u32
     requires { ⌜ r ≤ 7 ⌝ }
-    ensures { λ w. ⌜ w ≡ floatAt g r ⌝ }
+    ensures { λ w. ⌜ w ≡ floatAt (now (float .entry)) r ⌝ }
 {
-    g.float[r as usize]
+    float[r as usize]
 }
 
 // Registers r and (r + 1) mod 8.
-pub fn float_pair(g: Registers, r: u32) -> Words
+pub fn float_pair(float: &[u32; 8], r: u32) -> Words
     requires { ⌜ r ≤ 7 ⌝ }
-    ensures { λ w. ⌜ w ≡ floatPair g r ⌝ }
+    ensures { λ w. ⌜ w ≡ floatPair (now (float .entry)) r ⌝ }
 {
     Words {
-        high: float_at(g, r),
-        low: float_at(g, (r + 1) % 8),
+        high: float_at(float, r),
+        low: float_at(float, (r + 1) % 8),
     }
 }
 
-pub fn general_at(g: Registers, r: u32) -> u32
+pub fn general_at(general: &[u32; 8], r: u32) -> u32
     requires { ⌜ r ≤ 7 ⌝ }
-    ensures { λ w. ⌜ w ≡ generalAt g r ⌝ }
+    ensures { λ w. ⌜ w ≡ generalAt (now (general .entry)) r ⌝ }
 {
-    g.general[r as usize]
+    general[r as usize]
 }
 
 fn wide(x: u16) -> u32
@@ -70,13 +69,13 @@ fn short(w: u32) -> Words
     Words { high: w, low: 0 }
 }
 
-pub fn float_operand(width: Width, g: Registers, r: u32) -> Words
+pub fn float_operand(width: Width, float: &[u32; 8], r: u32) -> Words
     requires { ⌜ r ≤ 7 ⌝ }
-    ensures { λ w. ⌜ w ≡ floatOperand width g r ⌝ }
+    ensures { λ w. ⌜ w ≡ floatOperand width (now (float .entry)) r ⌝ }
 {
     match width {
-        Width::Short => short(float_at(g, r)),
-        Width::Long => float_pair(g, r),
+        Width::Short => short(float_at(float, r)),
+        Width::Long => float_pair(float, r),
     }
 }
 
@@ -95,18 +94,19 @@ pub fn second_operand(
     place: Place,
     width: Width,
     o: Order,
-    g: Registers,
+    float: &[u32; 8],
+    general: &[u32; 8],
     at: u32,
     memory: &[u16],
 ) -> Words
-    requires { ⌜ (o .r2 ≤ 7) × (at ≡ addressOf o g) × (present (spanAs place width) at (length (now memory)) ≡ true) ⌝ }
-    ensures { λ w. ⌜ w ≡ secondOperand place width o g (now (memory .entry)) ⌝ }
+    requires { ⌜ (o .r2 ≤ 7) × (at ≡ addressOf o (now general)) × (present (spanAs place width) at (length (now memory)) ≡ true) ⌝ }
+    ensures { λ w. ⌜ w ≡ secondOperand place width o (now (float .entry)) (now (general .entry)) (now (memory .entry)) ⌝ }
 {
     let r = o.r2 as u32;
     match place {
         Place::Nowhere => short(0),
-        Place::FloatRegister => float_operand(width, g, r),
-        Place::GeneralRegister => short(general_at(g, r)),
+        Place::FloatRegister => float_operand(width, float, r),
+        Place::GeneralRegister => short(general_at(general, r)),
         Place::Storage => storage_operand(width, memory, at as usize),
     }
 }

@@ -38,7 +38,7 @@ pub fn run(
             state: s,
             count: 0,
             stop: entry(
-                s.registers,
+                s.registers.status,
                 s.used,
                 deck.len(),
                 protect.len(),
@@ -51,7 +51,17 @@ pub fn run(
     let mut used = s.used;
     let mut count: u32 = 0;
     while count < limit {
-        let v = decide(registers, used, deck, memory, protect, journal.len());
+        let before = registers.status;
+        let v = decide(
+            &registers.float,
+            &registers.general,
+            before,
+            used,
+            deck,
+            memory,
+            protect,
+            journal.len(),
+        );
         match v {
             Verdict::Refused(stop) => {
                 return Ran {
@@ -63,7 +73,6 @@ pub fn run(
             Verdict::Granted(e) => {
                 let change = e.change;
                 let status = e.status;
-                let before = registers.status;
                 keep(
                     &registers.float,
                     &registers.general,

@@ -39,7 +39,13 @@ fn allow(e: Effect, protect: &[u8], memory: usize) -> Verdict
 fn recall(s: State, memory: usize, protect: &[u8], journal: &[u32]) -> Verdict
     ensures { λ v. ⌜ says v ≡ returning (now (protect .entry)) s memory (now (journal .entry)) ⌝ }
 {
-    let k = held(s.registers, s.used, protect.len(), memory, journal.len());
+    let k = held(
+        s.registers.status,
+        s.used,
+        protect.len(),
+        memory,
+        journal.len(),
+    );
     if number(k) != 0 {
         return Verdict::Refused(k);
     }

@@ -4,9 +4,6 @@ use borrow.Author.Needs.{needs}
 use Rattle.machine.proofs.effect.compare.Statement.{statement}
 use Rattle.machine.proofs.effect.compare.Tie as tie
 
-float-operand-requires : tie.Need-float-operand-requires
-float-operand-requires c κs = search needs
-
 compare-requires : tie.Need-compare-requires
 compare-requires c κs = search needs
 
@@ -14,8 +11,7 @@ granted-requires : tie.Need-granted-requires
 granted-requires c κs = search needs
 
 returns : tie.Need-returns
-returns c = rw (c .granted .ensures, c .before .compare .ensures, c .before .before .float-operand .ensures)
+returns c = rw (c .granted .ensures, c .before .compare .ensures)
 
 pub compare-spec : {M : Type 1} → statement M
-compare-spec =
-    tie.close (tie.spec float-operand-requires compare-requires granted-requires returns)
+compare-spec = tie.close (tie.spec compare-requires granted-requires returns)

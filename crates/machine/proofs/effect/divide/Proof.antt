@@ -4,9 +4,6 @@ use borrow.Author.Needs.{needs}
 use Rattle.machine.proofs.effect.divide.Statement.{statement}
 use Rattle.machine.proofs.effect.divide.Tie as tie
 
-float-operand-requires : tie.Need-float-operand-requires
-float-operand-requires c κs = search needs
-
 divide-requires : tie.Need-divide-requires
 divide-requires c κs = search needs
 
@@ -33,25 +30,23 @@ returns c =
     rw (
       c .granted .ensures,
       c .before .float-change .ensures,
-      ← c .before .before .before .before .before .before .before .float-operand .ensures,
       ← c .before .before .before .before .before .divide .ensures,
       c .before .before .before .q .given .1,
     )
 
 returns-2 : tie.Need-returns-2
-returns-2 c = rw (← c .before .before .before .before .float-operand .ensures, ← c .before .before .divide .ensures, c .enum-told .given .1)
+returns-2 c = rw (← c .before .before .divide .ensures, c .enum-told .given .1)
 
 returns-3 : tie.Need-returns-3
-returns-3 c = rw (← c .before .before .before .before .float-operand .ensures, ← c .before .before .divide .ensures, c .enum-told2 .given .1)
+returns-3 c = rw (← c .before .before .divide .ensures, c .enum-told2 .given .1)
 
 returns-4 : tie.Need-returns-4
-returns-4 c = rw (← c .before .before .before .before .float-operand .ensures, ← c .before .before .divide .ensures, c .enum-told3 .given .1)
+returns-4 c = rw (← c .before .before .divide .ensures, c .enum-told3 .given .1)
 
 pub divide-spec : {M : Type 1} → statement M
 divide-spec =
     tie.close
     (tie.spec
-    float-operand-requires
     divide-requires
     enum-known-q
     float-change-requires

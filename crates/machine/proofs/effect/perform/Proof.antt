@@ -26,6 +26,9 @@ load-requires-2 c κs = search needs
 enum-told-3 : tie.Need-enum-told-3
 enum-told-3 c = search needs
 
+float-operand-requires : tie.Need-float-operand-requires
+float-operand-requires c κs = search needs
+
 compare-requires : tie.Need-compare-requires
 compare-requires c κs = search needs
 
@@ -47,14 +50,17 @@ granted-requires c κs = search needs
 enum-told-6 : tie.Need-enum-told-6
 enum-told-6 c = search needs
 
+float-operand-requires-2 : tie.Need-float-operand-requires-2
+float-operand-requires-2 c κs = search needs
+
 divide-requires : tie.Need-divide-requires
 divide-requires c κs = search needs
 
 enum-told-7 : tie.Need-enum-told-7
 enum-told-7 c = search needs
 
-float-operand-requires : tie.Need-float-operand-requires
-float-operand-requires c κs = search needs
+float-operand-requires-3 : tie.Need-float-operand-requires-3
+float-operand-requires-3 c κs = search needs
 
 storage-change-requires : tie.Need-storage-change-requires
 storage-change-requires c κs = search needs
@@ -92,6 +98,9 @@ jump-requires c κs = search needs
 enum-told-12 : tie.Need-enum-told-12
 enum-told-12 c = search needs
 
+general-at-requires-2 : tie.Need-general-at-requires-2
+general-at-requires-2 c κs = search needs
+
 count-down-requires : tie.Need-count-down-requires
 count-down-requires c κs = search needs
 
@@ -108,7 +117,7 @@ returns-2 c = rw (c .before .before .enum-told2 .given .1, c .load2 .ensures, c 
 
 returns-3 : tie.Need-returns-3
 unfolding performed
-returns-3 c = rw (c .before .enum-told3 .given .1, c .compare .ensures)
+returns-3 c = rw (c .before .before .enum-told3 .given .1, c .compare .ensures, c .before .float-operand .ensures)
 
 returns-4 : tie.Need-returns-4
 unfolding performed
@@ -120,7 +129,7 @@ returns-5 c = rw (c .before .before .enum-told5 .given .1, c .granted .ensures, 
 
 returns-6 : tie.Need-returns-6
 unfolding performed
-returns-6 c = rw (c .before .enum-told6 .given .1, c .divide .ensures)
+returns-6 c = rw (c .before .before .enum-told6 .given .1, c .divide .ensures, c .before .float-operand2 .ensures)
 
 returns-7 : tie.Need-returns-7
 unfolding performed
@@ -129,7 +138,7 @@ returns-7 c =
       c .before .before .before .enum-told7 .given .1,
       c .granted2 .ensures,
       c .before .storage-change .ensures,
-      c .before .before .float-operand .ensures,
+      c .before .before .float-operand3 .ensures,
     )
 
 returns-8 : tie.Need-returns-8
@@ -150,7 +159,7 @@ returns-11 c = rw (c .before .enum-told11 .given .1, c .jump .ensures)
 
 returns-12 : tie.Need-returns-12
 unfolding performed
-returns-12 c = rw (c .before .enum-told12 .given .1, c .count-down .ensures)
+returns-12 c = rw (c .before .before .enum-told12 .given .1, c .count-down .ensures, c .before .general-at2 .ensures)
 
 returns-13 : tie.Need-returns-13
 unfolding performed
@@ -167,6 +176,7 @@ perform-spec =
     complement-requires
     load-requires-2
     enum-told-3
+    float-operand-requires
     compare-requires
     enum-told-4
     fix-requires
@@ -174,9 +184,10 @@ perform-spec =
     to-float-requires
     granted-requires
     enum-told-6
+    float-operand-requires-2
     divide-requires
     enum-told-7
-    float-operand-requires
+    float-operand-requires-3
     storage-change-requires
     granted-requires-2
     enum-told-8
@@ -189,6 +200,7 @@ perform-spec =
     enum-told-11
     jump-requires
     enum-told-12
+    general-at-requires-2
     count-down-requires
     enum-told-13
     returns

@@ -5,9 +5,6 @@ use Rattle.machine.specs.Jump.{countedDown}
 use Rattle.machine.proofs.jump.count_down.Statement.{statement}
 use Rattle.machine.proofs.jump.count_down.Tie as tie
 
-general-at-requires : tie.Need-general-at-requires
-general-at-requires c κs = search needs
-
 one-less-requires : tie.Need-one-less-requires
 one-less-requires c κs = search needs
 
@@ -16,7 +13,7 @@ moved-requires c κs = search needs
 
 returns : tie.Need-returns
 unfolding countedDown
-returns c = rw (c .moved .ensures, c .before .one-less .ensures, c .before .before .general-at .ensures)
+returns c = rw (c .moved .ensures, c .before .one-less .ensures)
 
 pub count-down-spec : {M : Type 1} → statement M
-count-down-spec = tie.close (tie.spec general-at-requires one-less-requires moved-requires returns)
+count-down-spec = tie.close (tie.spec one-less-requires moved-requires returns)

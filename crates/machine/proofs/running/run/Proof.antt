@@ -34,49 +34,62 @@ enum-known-v : tie.Need-enum-known-v Inv-loop μ-loop
 enum-known-v c = search needs
 
 same-length : tie.Need-same-length Inv-loop μ-loop
-same-length c = c .before .before .before .before .before .before .loop .inv .memory
+same-length c = c .before .before .before .before .before .before .before .before .before .before .loop .inv .memory
 
 same-length-2 : tie.Need-same-length-2 Inv-loop μ-loop
-same-length-2 c = c .before .before .before .before .before .before .loop .inv .journal
+same-length-2 c = c .before .before .before .before .before .before .before .before .before .before .loop .inv .journal
 
 returns-2 : tie.Need-returns-2 Inv-loop μ-loop
 returns-2 c =
-    sym (run-steps _ _ _ _ (c .before .before .before .before .before .before .before .before .if1 .left) ∙ under-stop _ _ _ _ _ _ (c .before .before .before .before .before .before .loop .inv) _ (c .before .before .before .before .before .loop-test .taken) (sym (c .before .before .before .decide .ensures) ∙ ap says (c .before .v .given .1)))
+    let at = c .before .before .before .before .before .before .before .before .before in
+    sym (run-steps _ _ _ _ (at .before .before .before .if1 .left) ∙ under-stop _ _ _ _ _ _ (at .before .loop .inv) _ (at .loop-test .taken) (sym (c .before .before .before .decide .ensures) ∙ ap says (c .before .v .given .1)))
 
 enum-known-v-2 : tie.Need-enum-known-v-2 Inv-loop μ-loop
 enum-known-v-2 c = search needs
 
 keep-requires : tie.Need-keep-requires Inv-loop μ-loop
 keep-requires c κs =
-    committable _ _ _ _ _ _ _ (sym (c .before .before .before .before .before .before .before .before .before .before .decide .ensures) ∙ ap says (c .before .before .before .before .before .before .before .before .v2 .given .1))
+    let step = c .before .before .before .before .before .before .before in
+    committable _ _ _ _ _ _ _ (sym (step .before .before .decide .ensures) ∙ ap says (step .v2 .given .1))
 
 store-requires : tie.Need-store-requires Inv-loop μ-loop
 store-requires c κs =
-    committable _ _ _ _ _ _ _ (sym (c .before .before .before .before .before .before .before .before .before .before .before .before .before .before .decide .ensures) ∙ ap says (c .before .before .before .before .before .before .before .before .before .before .before .before .v2 .given .1)) .there
+    let step = c .before .before .before .before .before .before .before .before .before .before .before in
+    committable _ _ _ _ _ _ _ (sym (step .before .before .decide .ensures) ∙ ap says (step .v2 .given .1)) .there
 
 put-float-requires : tie.Need-put-float-requires Inv-loop μ-loop
 put-float-requires c κs =
-    committable _ _ _ _ _ _ _ (sym (c .before .before .before .before .before .before .before .before .before .before .before .before .before .before .before .before .before .before .decide .ensures) ∙ ap says (c .before .before .before .before .before .before .before .before .before .before .before .before .before .before .before .before .v2 .given .1)) .register
+    let step = c .before .before .before .before .before .before .before .before .before .before .before .before .before .before .before in
+    committable _ _ _ _ _ _ _ (sym (step .before .before .decide .ensures) ∙ ap says (step .v2 .given .1)) .register
 
 put-general-requires : tie.Need-put-general-requires Inv-loop μ-loop
 put-general-requires c κs =
-    committable _ _ _ _ _ _ _ (sym (c .before .before .before .before .before .before .before .before .before .before .before .before .before .before .before .before .before .before .before .before .decide .ensures) ∙ ap says (c .before .before .before .before .before .before .before .before .before .before .before .before .before .before .before .before .before .before .v2 .given .1)) .register
+    let step = c .before .before .before .before .before .before .before .before .before .before .before .before .before .before .before .before .before in
+    committable _ _ _ _ _ _ _ (sym (step .before .before .decide .ensures) ∙ ap says (step .v2 .given .1)) .register
 
 add-used : tie.Need-add-used Inv-loop μ-loop
 add-used c =
-    omega (arith, committable _ _ _ _ _ _ _ (sym (c .before .before .before .before .before .before .before .before .before .before .before .before .before .before .before .before .before .before .before .before .before .decide .ensures) ∙ ap says (c .before .before .before .before .before .before .before .before .before .before .before .before .before .before .before .before .before .before .before .v2 .given .1)) .count)
+    let step = c .before .before .before .before .before .before .before .before .before .before .before .before .before .before .before .before .before .before in
+    omega (arith, committable _ _ _ _ _ _ _ (sym (step .before .before .decide .ensures) ∙ ap says (step .v2 .given .1)) .count)
 
 add-count : tie.Need-add-count Inv-loop μ-loop
 add-count c =
-    omega (arith, c .before .before .before .before .before .before .before .before .before .before .before .before .before .before .before .before .before .before .before .before .before .before .before .loop-test .taken, c .before .before .before .before .before .before .before .before .before .before .before .before .before .before .before .before .before .before .before .before .before .before .before .before .before .before .before .before .before .before .before .fits .limit .fits)
+    let at = c .before .before .before .before .before .before .before .before .before .before .before .before .before .before .before .before .before .before .before .before .before .before .before .before .before .before in
+    omega (arith, at .loop-test .taken, at .before .before .before .before .before .before .before .before .fits .limit .fits)
 
 loop-less : tie.Need-loop-less Inv-loop μ-loop
-loop-less c =
-    omega (arith, c .before .before .before .before .before .before .before .before .before .before .before .before .before .before .before .before .before .before .before .before .before .before .before .loop-test .taken)
+loop-less c = omega (arith, c .before .before .before .before .before .before .before .before .before .before .before .before .before .before .before .before .before .before .before .before .before .before .before .before .before .before .loop-test .taken)
 
 loop-again : tie.Need-loop-again Inv-loop μ-loop
 loop-again c =
-    under-on _ _ _ _ _ _ (c .before .before .before .before .before .before .before .before .before .before .before .before .before .before .before .before .before .before .before .before .before .before .before .before .loop .inv) _ _ (c .before .before .before .before .before .before .before .before .before .before .before .before .before .before .before .before .before .before .before .before .before .before .before .loop-test .taken) (sym (c .before .before .before .before .before .before .before .before .before .before .before .before .before .before .before .before .before .before .before .before .before .decide .ensures) ∙ ap says (c .before .before .before .before .before .before .before .before .before .before .before .before .before .before .before .before .before .before .before .v2 .given .1)) (rw (c .put-general .ensures, c .before .before .put-float .ensures, c .before .before .before .before .before .before .store .ensures, c .before .before .before .before .before .before .before .before .before .before .keep .ensures)) (c .before .before .before .before .before .before .store .kept .1 .0) (c .before .before .before .before .before .before .before .before .before .before .keep .kept .1 .1 .1 .1 .1 .1 .0)
+    let stored = c .before .before .before .before .before .before in
+    let kept = stored .before .before .before .before in
+    let step = kept .before .before .before .before .before .before .before .before in
+    let at = step .before .before .before .before .before .before .before .before in
+    under-on _ _ _ _ _ _ (at .before .loop .inv) _ _ (at .loop-test .taken) (sym (step .before .before .decide .ensures) ∙ ap says (step .v2 .given .1))
+    (rw (c .put-general .ensures, c .before .before .put-float .ensures, stored .store .ensures, kept .keep .ensures))
+    (stored .store .kept .1 .0)
+    (kept .keep .kept .1 .1 .1 .1 .1 .1 .0)
 
 same-length-3 : tie.Need-same-length-3 Inv-loop μ-loop
 same-length-3 c = c .before .loop .inv .memory
