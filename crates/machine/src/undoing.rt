@@ -30,9 +30,10 @@ fn allow(e: Effect, protect: &[u8], memory: usize) -> Verdict
         return Verdict::Refused(Stop::RecordForm);
     }
     if is_guarded(protect, ch) {
-        return Verdict::Refused(Stop::RecordForm);
+        Verdict::Refused(Stop::RecordForm)
+    } else {
+        Verdict::Granted(e)
     }
-    Verdict::Granted(e)
 }
 
 // Checks 2, 3, 14 and 15, or what the last record puts back.
