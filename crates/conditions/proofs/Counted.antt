@@ -1,6 +1,6 @@
 -- n by the answers: what the calls of a trail say was taken, less what they say was taken back, is what its entries have grown by.
 use Prim.Native.Nat.{ℕ, zero, suc, _+_}
-use mathlib.Core.Path.{_≡_, refl, ap, _∙_}
+use mathlib.Core.Path.{_≡_, refl}
 use mathlib.Core.List.{List, [], _∷_}
 use mathlib.Core.Bool.{Bool, true, false, cond}
 use lib.Dec.{eqb}
@@ -10,10 +10,10 @@ use borrow.Author.Tests.{eqb-false, ne-eqb}
 use Rattle.hexfloat.specs.Answer.{Answer, gives, stops}
 use Rattle.machine.specs.declared.verdict.Effect.{Effect}
 use Rattle.machine.specs.Run.{repeated}
-use Rattle.machine.specs.Step.{Outcome, outcome, onward}
+use Rattle.machine.specs.Step.{outcome, onward}
 use Rattle.machine.proofs.Answers.{StopsBy}
 use Rattle.machine.proofs.Refusals.{StepNumber}
-use Rattle.conditions.specs.Trail.{Call, step, run, back, Entry, Trail, trail, extended, judgedLast, enteredLast, heldAt, dropped, stepTraced, traced, Reply, replyOf, standing, replies, stepsSaid, backsSaid}
+use Rattle.conditions.specs.Trail.{Call, step, run, back, Entry, Trail, trail, extended, judgedLast, enteredLast, heldAt, dropped, stepTraced, traced, standing, replies, stepsSaid, backsSaid}
 use Rattle.conditions.proofs.Repeats.{judged-by, repeatedLast, run-repeats}
 
 -- no check with the start alone answers 0

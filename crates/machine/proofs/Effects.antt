@@ -1,10 +1,10 @@
 -- What holds of the effect of an order that passes its checks: its registers are among 0 to 7, its halfwords are there and free, and its condition
 -- code and mask are of the form.
-use Prim.Native.Nat.{ℕ, _+_, _≤_}
+use Prim.Native.Nat.{ℕ, _≤_}
 use mathlib.Core.Path.{_≡_, refl, subst}
 use mathlib.Core.List.{List}
-use mathlib.Core.Bool.{true, false, _||_}
-use lib.Dec.{eqb, leb}
+use mathlib.Core.Bool.{true, false}
+use lib.Dec.{eqb}
 use native.Mathlib.Omega.{arith}
 use borrow.Author.Tests.{le-leb, leb-true}
 use Rattle.hexfloat.specs.declared.word.Width.{Width}
@@ -14,17 +14,15 @@ use Rattle.hexfloat.specs.Convert.{toFixed}
 use Rattle.hexfloat.specs.Divide.{quotientWords}
 use Rattle.hexfloat.proofs.Conditions.{conditions-set}
 use Rattle.machine.specs.declared.change.Change.{Change}
-use Rattle.machine.specs.declared.order.Operation.{Operation}
 use Rattle.machine.specs.declared.order.Order.{Order}
 use Rattle.machine.specs.declared.order.Verb.{Verb}
 use Rattle.machine.specs.declared.state.Registers.{Registers}
 use Rattle.machine.specs.declared.verdict.Effect.{Effect}
-use Rattle.machine.specs.Address.{addressOf}
 use Rattle.machine.specs.Change.{registered, placed, guarded, floatChange, storageChange}
 use Rattle.machine.specs.Check.{present}
-use Rattle.machine.specs.Effect.{nextEffect, fixedInto, resultInto, performed, effectOf}
+use Rattle.machine.specs.Effect.{nextEffect, fixedInto, resultInto, performed}
 use Rattle.machine.specs.Jump.{jumped, countedDown}
-use Rattle.machine.specs.Operand.{floatOperand, secondOperand}
+use Rattle.machine.specs.Operand.{floatOperand}
 use Rattle.machine.specs.Order.{storedAs, halfwords}
 use Rattle.machine.specs.Protect.{anyProtected}
 use Rattle.machine.specs.Status.{conditionFormed}

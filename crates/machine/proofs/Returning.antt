@@ -7,7 +7,7 @@ use lib.Dec.{eqb, leb}
 use lib.ListN.{length}
 use native.Mathlib.Omega.{arith}
 use borrow.Author.Tests.{eqb-true, eqb-false, not-true}
-use Rattle.hexfloat.specs.Answer.{Answer, gives, stops}
+use Rattle.hexfloat.specs.Answer.{gives, stops}
 use Rattle.machine.specs.declared.change.Change.{Change}
 use Rattle.machine.specs.declared.journal.Record.{Record}
 use Rattle.machine.specs.declared.state.State.{State}

@@ -25,6 +25,10 @@ registers f n s = record { float = f; general = n; status = s }
 abbrev pub state : Registers → ℕ → State
 state g used = record { registers = g; used = used }
 
+-- with the registers and the status apart
+abbrev pub machineOf : List ℕ → List ℕ → Status → ℕ → List ℕ → List ℕ → Machine
+machineOf f n s used m j = machine (state (registers f n s) used) m j
+
 abbrev pub stateAfter : Effect → ℕ → State → State
 stateAfter e used s = state (registersAfter e (s .registers)) used
 

@@ -15,6 +15,10 @@ unfoldable pub repeated : {W : Type 0} → (W → Answer Effect) → (W → Effe
 repeated verdict take zero x = outcome x 0 0
 repeated verdict take (suc n) x = onward (verdict x) x (take x) (repeated verdict take n)
 
+-- of the machine
+abbrev pub stepsOf : List ℕ → List ℕ → ℕ → Machine → Outcome Machine
+stepsOf d p n x = repeated (verdictOf d p) (λ y e. committed e y) n x
+
 -- checks 1 to 3 come first, at a limit of 0 too
 abbrev pub admitted : {W : Type 0} → ℕ → W → Outcome W → Outcome W
 admitted k x rest = cond (eqb k 0) rest (outcome x 0 k)
@@ -23,4 +27,4 @@ abbrev pub entryOf : List ℕ → List ℕ → Machine → ℕ
 entryOf d p x = entryStop (length d) (length p) (x .state .registers .status) (x .state .used) (length (x .memory)) (length (x .journal))
 
 unfoldable pub ran : List ℕ → List ℕ → ℕ → Machine → Outcome Machine
-ran d p limit x = admitted (entryOf d p x) x (repeated (verdictOf d p) (λ y e. committed e y) limit x)
+ran d p limit x = admitted (entryOf d p x) x (stepsOf d p limit x)

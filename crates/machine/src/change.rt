@@ -84,9 +84,8 @@ pub fn is_guarded(protect: &[u8], ch: Change) -> bool
     }
 }
 
-// The same places with their present contents. The registers are lent, since a copy of a set that was
-// just stored to is slow.
-pub fn old<'a>(float: &'a [u32; 8], general: &'a [u32; 8], memory: &'a [u16], ch: Change) -> Change
+// The same places with their present contents.
+pub fn old(float: &[u32; 8], general: &[u32; 8], memory: &[u16], ch: Change) -> Change
     requires { ⌜ (registered ch ≡ true) × (placed ch (length (now memory)) ≡ true) ⌝ }
     ensures { λ r. ⌜ ((s : Status) → r ≡ oldOf (registers (now (float .entry)) (now (general .entry)) s) (now (memory .entry)) ch) ⌝ }
 {

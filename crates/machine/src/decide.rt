@@ -90,9 +90,9 @@ fn judge(
 }
 
 // Every check, or the step's effect.
-pub fn decide<'a>(
-    float: &'a [u32; 8],
-    general: &'a [u32; 8],
+pub fn decide(
+    float: &[u32; 8],
+    general: &[u32; 8],
     status: Status,
     used: u32,
     deck: &[u16],

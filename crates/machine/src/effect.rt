@@ -125,8 +125,7 @@ fn set_mask(s: Status, mask: u16) -> Verdict
     })
 }
 
-// An order whose second operand is b; S, if it has one, is at `at`. The registers are lent all the way
-// down to where a word is read: a copy of a set that was just stored to is slow.
+// An order whose second operand is b; S, if it has one, is at `at`.
 fn perform(
     verb: Verb,
     width: Width,

@@ -110,13 +110,13 @@ fn encode(e: Effect) -> Record
 }
 
 // The record of what an effect overwrites, at the used count.
-pub fn keep<'a>(
-    float: &'a [u32; 8],
-    general: &'a [u32; 8],
+pub fn keep(
+    float: &[u32; 8],
+    general: &[u32; 8],
     status: Status,
     used: u32,
     e: Effect,
-    memory: &'a [u16],
+    memory: &[u16],
     journal: &mut [u32],
 )
     requires { ⌜ Committable e status used (length (now memory)) (length (now journal)) ⌝ }

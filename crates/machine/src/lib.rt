@@ -4,6 +4,7 @@
 // exports takes the state by value and hands it back, has no `requires`, and has one equation with a
 // definition of specs/ as its whole contract; functions between the modules may have a `requires`.
 mod address;
+mod advance;
 mod change;
 mod check;
 mod decide;

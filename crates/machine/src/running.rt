@@ -1,13 +1,10 @@
-// Runs: the one place that has the code of a step.
-use crate::change::put_float;
-use crate::change::put_general;
-use crate::change::store;
-use crate::decide::decide;
+// Runs.
+use crate::advance::advance;
 use crate::decide::entry;
-use crate::journal::keep;
+use crate::state::Registers;
 use crate::state::State;
 use crate::stop::Stop;
-use crate::verdict::Verdict;
+use crate::stop::number;
 ghost use mathlib.Core.Path.{_≡_};
 ghost use Rattle.machine.specs.Stops.{numberOf};
 ghost use Rattle.machine.specs.Machine.{machine};
@@ -20,8 +17,7 @@ pub struct Ran {
     pub stop: Stop,
 }
 
-// Steps to the limit, which is looked at first, or to a stop. Each step makes checks 1 to 3; at a limit
-// of 0 they are made here.
+// Checks 1 to 3, at a limit of 0 too; then steps to the limit or to a stop.
 pub fn run(
     s: State,
     deck: &[u16],
@@ -33,67 +29,49 @@ pub fn run(
     ensures { λ r. ⌜ outcome (machine (r .state) (now (memory .exit)) (now (journal .exit))) (r .count) (numberOf (r .stop))
         ≡ ran (now (deck .entry)) (now (protect .entry)) limit (machine s (now (memory .entry)) (now (journal .entry))) ⌝ }
 {
-    if limit == 0 {
+    let registers = s.registers;
+    let start = registers.status;
+    let checks = entry(
+        start,
+        s.used,
+        deck.len(),
+        protect.len(),
+        memory.len(),
+        journal.len(),
+    );
+    if number(checks) != 0 {
         return Ran {
             state: s,
             count: 0,
-            stop: entry(
-                s.registers.status,
-                s.used,
-                deck.len(),
-                protect.len(),
-                memory.len(),
-                journal.len(),
-            ),
+            stop: checks,
         };
     }
-    let mut registers = s.registers;
-    let mut used = s.used;
-    let mut count: u32 = 0;
-    while count < limit {
-        let before = registers.status;
-        let v = decide(
-            &registers.float,
-            &registers.general,
-            before,
-            used,
-            deck,
-            memory,
-            protect,
-            journal.len(),
-        );
-        match v {
-            Verdict::Refused(stop) => {
-                return Ran {
-                    state: State { registers, used },
-                    count,
-                    stop,
-                };
-            }
-            Verdict::Granted(e) => {
-                let change = e.change;
-                let status = e.status;
-                keep(
-                    &registers.float,
-                    &registers.general,
-                    before,
-                    used,
-                    e,
-                    memory,
-                    journal,
-                );
-                store(change, memory);
-                put_float(change, &mut registers.float);
-                put_general(change, &mut registers.general);
-                registers.status = status;
-                used += 1;
-            }
-        }
-        count += 1;
-    }
+    let mut float = registers.float;
+    let mut general = registers.general;
+    let r = advance(
+        &mut float,
+        &mut general,
+        start,
+        s.used,
+        deck,
+        memory,
+        protect,
+        journal,
+        limit,
+    );
+    let status = r.status;
+    let stop = r.stop;
+    let after = Registers {
+        float,
+        general,
+        status,
+    };
     Ran {
-        state: State { registers, used },
-        count,
-        stop: Stop::Taken,
+        state: State {
+            registers: after,
+            used: r.used,
+        },
+        count: r.count,
+        stop,
     }
 }

@@ -1,5 +1,6 @@
 // One step.
-use crate::running::run;
+use crate::advance::advance;
+use crate::state::Registers;
 use crate::state::State;
 use crate::stop::Stop;
 ghost use mathlib.Core.Path.{_≡_};
@@ -12,8 +13,7 @@ pub struct Stepped {
     pub stop: Stop,
 }
 
-// One order, or the stop that the table gives: a run of one, so that the code of a step stands once. The
-// state goes in and out field by field: one load of two fields that were just stored apart is slow.
+// One order, or the stop that the table gives: at most one step.
 pub fn step(
     s: State,
     deck: &[u16],
@@ -25,13 +25,32 @@ pub fn step(
         ≡ stepped (now (deck .entry)) (now (protect .entry)) (machine s (now (memory .entry)) (now (journal .entry))) ⌝ }
 {
     let registers = s.registers;
-    let used = s.used;
-    let r = run(State { registers, used }, deck, memory, protect, journal, 1);
+    let start = registers.status;
+    let mut float = registers.float;
+    let mut general = registers.general;
+    let r = advance(
+        &mut float,
+        &mut general,
+        start,
+        s.used,
+        deck,
+        memory,
+        protect,
+        journal,
+        1,
+    );
+    let status = r.status;
     let stop = r.stop;
-    let after = r.state.registers;
-    let state = State {
-        registers: after,
-        used: r.state.used,
+    let after = Registers {
+        float,
+        general,
+        status,
     };
-    Stepped { state, stop }
+    Stepped {
+        state: State {
+            registers: after,
+            used: r.used,
+        },
+        stop,
+    }
 }

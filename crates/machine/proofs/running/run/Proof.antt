@@ -1,128 +1,51 @@
--- `machine::running::run` meets its contract: the invariant: what the steps so far and those that are left lead to.
+-- `machine::running::run` meets its contract: checks 1 to 3, then the steps.
 -- Assumes nothing.
+use borrow.Author.Tests.{eq-eqb, ne-eqb}
 use borrow.Author.Needs.{needs}
-use native.Mathlib.Omega.{arith}
-use mathlib.Core.Path.{sym, ap, _∙_}
-use Prim.Native.Nat.{_-_}
-use Rattle.machine.specs.Machine.{machine, state}
-use Rattle.machine.specs.Says.{says}
-use Rattle.machine.proofs.Decided.{committable}
-use Rattle.machine.proofs.Runs.{Under, run-steps, run-none, under-start, under-on, under-stop, under-end}
+use mathlib.Core.Path.{sym, _∙_}
+use Rattle.machine.specs.Run.{ran}
+use Rattle.machine.specs.Stops.{numberOf}
 use Rattle.machine.proofs.running.run.Statement.{statement}
 use Rattle.machine.proofs.running.run.Tie as tie
 
-abbrev Inv-loop : tie.InvT-loop
-Inv-loop deck memory₀ protect journal₀ limit registers₀ used₀ count₀ memory journal registers used count =
-    Under deck protect limit (machine (state registers₀ used₀) memory₀ journal₀) (machine (state registers used) memory journal) count
+entry-requires : tie.Need-entry-requires
+entry-requires c κs = search needs
 
-abbrev μ-loop : tie.MeasureT-loop
-μ-loop deck memory₀ protect journal₀ limit registers₀ used₀ count₀ memory journal registers used count = limit - count
+number-requires : tie.Need-number-requires
+number-requires c κs = search needs
 
-entry-requires : tie.Need-entry-requires Inv-loop μ-loop
-entry-requires c κs = tt
+returns : tie.Need-returns
+unfolding ran
+returns c =
+    let checks = c .before .before .entry in
+    rw (← checks .ensures, ne-eqb (numberOf (checks .result)) 0 (λ z. c .if1 .taken (c .before .number .ensures ∙ z)))
 
-returns : tie.Need-returns Inv-loop μ-loop
-returns c = rw (c .entry .ensures) (sym (run-none _ _ _ _ (c .before .if1 .taken)))
+advance-requires : tie.Need-advance-requires
+advance-requires c κs = search needs
 
-loop-holds : tie.Need-loop-holds Inv-loop μ-loop
-loop-holds c = under-start _ _ _ _
+same-length : tie.Need-same-length
+same-length c = search needs
 
-decide-requires : tie.Need-decide-requires Inv-loop μ-loop
-decide-requires c κs = tt
+same-length-2 : tie.Need-same-length-2
+same-length-2 c = search needs
 
-enum-known-v : tie.Need-enum-known-v Inv-loop μ-loop
-enum-known-v c = search needs
-
-same-length : tie.Need-same-length Inv-loop μ-loop
-same-length c = c .before .before .before .before .before .before .before .before .before .before .loop .inv .memory
-
-same-length-2 : tie.Need-same-length-2 Inv-loop μ-loop
-same-length-2 c = c .before .before .before .before .before .before .before .before .before .before .loop .inv .journal
-
-returns-2 : tie.Need-returns-2 Inv-loop μ-loop
+returns-2 : tie.Need-returns-2
+unfolding ran
 returns-2 c =
-    let at = c .before .before .before .before .before .before .before .before .before in
-    sym (run-steps _ _ _ _ (at .before .before .before .if1 .left) ∙ under-stop _ _ _ _ _ _ (at .before .loop .inv) _ (at .loop-test .taken) (sym (c .before .before .before .decide .ensures) ∙ ap says (c .before .v .given .1)))
-
-enum-known-v-2 : tie.Need-enum-known-v-2 Inv-loop μ-loop
-enum-known-v-2 c = search needs
-
-keep-requires : tie.Need-keep-requires Inv-loop μ-loop
-keep-requires c κs =
-    let step = c .before .before .before .before .before .before .before in
-    committable _ _ _ _ _ _ _ (sym (step .before .before .decide .ensures) ∙ ap says (step .v2 .given .1))
-
-store-requires : tie.Need-store-requires Inv-loop μ-loop
-store-requires c κs =
-    let step = c .before .before .before .before .before .before .before .before .before .before .before in
-    committable _ _ _ _ _ _ _ (sym (step .before .before .decide .ensures) ∙ ap says (step .v2 .given .1)) .there
-
-put-float-requires : tie.Need-put-float-requires Inv-loop μ-loop
-put-float-requires c κs =
-    let step = c .before .before .before .before .before .before .before .before .before .before .before .before .before .before .before in
-    committable _ _ _ _ _ _ _ (sym (step .before .before .decide .ensures) ∙ ap says (step .v2 .given .1)) .register
-
-put-general-requires : tie.Need-put-general-requires Inv-loop μ-loop
-put-general-requires c κs =
-    let step = c .before .before .before .before .before .before .before .before .before .before .before .before .before .before .before .before .before in
-    committable _ _ _ _ _ _ _ (sym (step .before .before .decide .ensures) ∙ ap says (step .v2 .given .1)) .register
-
-add-used : tie.Need-add-used Inv-loop μ-loop
-add-used c =
-    let step = c .before .before .before .before .before .before .before .before .before .before .before .before .before .before .before .before .before .before in
-    omega (arith, committable _ _ _ _ _ _ _ (sym (step .before .before .decide .ensures) ∙ ap says (step .v2 .given .1)) .count)
-
-add-count : tie.Need-add-count Inv-loop μ-loop
-add-count c =
-    let at = c .before .before .before .before .before .before .before .before .before .before .before .before .before .before .before .before .before .before .before .before .before .before .before .before .before .before in
-    omega (arith, at .loop-test .taken, at .before .before .before .before .before .before .before .before .fits .limit .fits)
-
-loop-less : tie.Need-loop-less Inv-loop μ-loop
-loop-less c = omega (arith, c .before .before .before .before .before .before .before .before .before .before .before .before .before .before .before .before .before .before .before .before .before .before .before .before .before .before .loop-test .taken)
-
-loop-again : tie.Need-loop-again Inv-loop μ-loop
-loop-again c =
-    let stored = c .before .before .before .before .before .before in
-    let kept = stored .before .before .before .before in
-    let step = kept .before .before .before .before .before .before .before .before in
-    let at = step .before .before .before .before .before .before .before .before in
-    under-on _ _ _ _ _ _ (at .before .loop .inv) _ _ (at .loop-test .taken) (sym (step .before .before .decide .ensures) ∙ ap says (step .v2 .given .1))
-    (rw (c .put-general .ensures, c .before .before .put-float .ensures, stored .store .ensures, kept .keep .ensures))
-    (stored .store .kept .1 .0)
-    (kept .keep .kept .1 .1 .1 .1 .1 .1 .0)
-
-same-length-3 : tie.Need-same-length-3 Inv-loop μ-loop
-same-length-3 c = c .before .loop .inv .memory
-
-same-length-4 : tie.Need-same-length-4 Inv-loop μ-loop
-same-length-4 c = c .before .loop .inv .journal
-
-returns-3 : tie.Need-returns-3 Inv-loop μ-loop
-returns-3 c = sym (run-steps _ _ _ _ (c .before .before .before .if1 .left) ∙ under-end _ _ _ _ _ _ (c .before .loop .inv) (c .loop-test .left))
+    let went = c .before .before .before .before .before in
+    let entered = went .before .before .before .before .before .before .before in
+    let checks = entered .before .before .entry in
+    let zero = sym (entered .before .number .ensures) ∙ entered .if1 .left in
+    rw (← checks .ensures, eq-eqb (numberOf (checks .result)) 0 zero) (went .advance .ensures)
 
 pub run-spec : {M : Type 1} → statement M
 run-spec =
     tie.close
     (tie.spec
-    Inv-loop
-    μ-loop
     entry-requires
+    number-requires
     returns
-    loop-holds
-    decide-requires
-    enum-known-v
+    advance-requires
     same-length
     same-length-2
-    returns-2
-    enum-known-v-2
-    keep-requires
-    store-requires
-    put-float-requires
-    put-general-requires
-    add-used
-    add-count
-    loop-less
-    loop-again
-    same-length-3
-    same-length-4
-    returns-3)
+    returns-2)

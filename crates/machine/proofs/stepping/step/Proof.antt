@@ -1,12 +1,12 @@
--- `machine::stepping::step` meets its contract: a run of one is a step.
+-- `machine::stepping::step` meets its contract: at most one step is a step.
 -- Assumes nothing.
 use borrow.Author.Needs.{needs}
 use Rattle.machine.proofs.Runs.{one-step}
 use Rattle.machine.proofs.stepping.step.Statement.{statement}
 use Rattle.machine.proofs.stepping.step.Tie as tie
 
-run-requires : tie.Need-run-requires
-run-requires c κs = search needs
+advance-requires : tie.Need-advance-requires
+advance-requires c κs = search needs
 
 same-length : tie.Need-same-length
 same-length c = search needs
@@ -15,7 +15,7 @@ same-length-2 : tie.Need-same-length-2
 same-length-2 c = search needs
 
 returns : tie.Need-returns
-returns c = one-step _ _ _ _ _ _ (c .before .before .before .before .before .run .ensures)
+returns c = one-step _ _ _ _ _ _ (c .before .before .before .before .before .advance .ensures)
 
 pub step-spec : {M : Type 1} → statement M
-step-spec = tie.close (tie.spec run-requires same-length same-length-2 returns)
+step-spec = tie.close (tie.spec advance-requires same-length same-length-2 returns)

@@ -1,0 +1,121 @@
+-- `machine::advance::advance` meets its contract: the invariant: what the steps so far and those that are left lead to.
+-- Assumes nothing.
+use borrow.Author.Needs.{needs}
+use native.Mathlib.Omega.{arith}
+use mathlib.Core.Path.{sym, ap, _∙_}
+use Prim.Native.Nat.{_-_}
+use Rattle.machine.specs.Machine.{machineOf}
+use Rattle.machine.specs.Says.{says}
+use Rattle.machine.proofs.Decided.{committable}
+use Rattle.machine.proofs.Runs.{Under, under-start, under-on, under-stop, under-end}
+use Rattle.machine.proofs.advance.advance.Statement.{statement}
+use Rattle.machine.proofs.advance.advance.Tie as tie
+
+abbrev Inv-loop : tie.InvT-loop
+Inv-loop float₀ general₀ first deck memory₀ protect journal₀ limit status₀ used₀ count₀ float general memory journal status used count =
+    Under deck protect limit (machineOf float₀ general₀ status₀ used₀ memory₀ journal₀) (machineOf float general status used memory journal) count
+
+abbrev μ-loop : tie.MeasureT-loop
+μ-loop float₀ general₀ first deck memory₀ protect journal₀ limit status₀ used₀ count₀ float general memory journal status used count = limit - count
+
+loop-holds : tie.Need-loop-holds Inv-loop μ-loop
+loop-holds c = under-start _ _ _ _
+
+decide-requires : tie.Need-decide-requires Inv-loop μ-loop
+decide-requires c κs = tt
+
+enum-known-v : tie.Need-enum-known-v Inv-loop μ-loop
+enum-known-v c = search needs
+
+same-length : tie.Need-same-length Inv-loop μ-loop
+same-length c = c .before .before .before .before .before .before .before .before .loop .inv .memory
+
+same-length-2 : tie.Need-same-length-2 Inv-loop μ-loop
+same-length-2 c = c .before .before .before .before .before .before .before .before .loop .inv .journal
+
+returns : tie.Need-returns Inv-loop μ-loop
+returns c =
+    let at = c .before .before .before .before .before .before .before in
+    sym (under-stop _ _ _ _ _ _ (at .before .loop .inv) _ (at .loop-test .taken) (sym (c .before .before .before .decide .ensures) ∙ ap says (c .before .v .given .1)))
+
+enum-known-v-2 : tie.Need-enum-known-v-2 Inv-loop μ-loop
+enum-known-v-2 c = search needs
+
+keep-requires : tie.Need-keep-requires Inv-loop μ-loop
+keep-requires c κs =
+    let step = c .before .before .before .before .before in
+    committable _ _ _ _ _ _ _ (sym (step .before .before .decide .ensures) ∙ ap says (step .v2 .given .1))
+
+store-requires : tie.Need-store-requires Inv-loop μ-loop
+store-requires c κs =
+    let step = c .before .before .before .before .before .before .before .before .before in
+    committable _ _ _ _ _ _ _ (sym (step .before .before .decide .ensures) ∙ ap says (step .v2 .given .1)) .there
+
+put-float-requires : tie.Need-put-float-requires Inv-loop μ-loop
+put-float-requires c κs =
+    let step = c .before .before .before .before .before .before .before .before .before .before .before .before .before in
+    committable _ _ _ _ _ _ _ (sym (step .before .before .decide .ensures) ∙ ap says (step .v2 .given .1)) .register
+
+put-general-requires : tie.Need-put-general-requires Inv-loop μ-loop
+put-general-requires c κs =
+    let step = c .before .before .before .before .before .before .before .before .before .before .before .before .before .before .before in
+    committable _ _ _ _ _ _ _ (sym (step .before .before .decide .ensures) ∙ ap says (step .v2 .given .1)) .register
+
+add-used : tie.Need-add-used Inv-loop μ-loop
+add-used c =
+    let step = c .before .before .before .before .before .before .before .before .before .before .before .before .before .before .before .before .before in
+    omega (arith, committable _ _ _ _ _ _ _ (sym (step .before .before .decide .ensures) ∙ ap says (step .v2 .given .1)) .count)
+
+add-count : tie.Need-add-count Inv-loop μ-loop
+add-count c =
+    let at = c .before .before .before .before .before .before .before .before .before .before .before .before .before .before .before .before .before .before .before .before .before .before .before in
+    omega (arith, at .loop-test .taken, at .before .before .before .before .before .before .fits .limit .fits)
+
+loop-less : tie.Need-loop-less Inv-loop μ-loop
+loop-less c = omega (arith, c .before .before .before .before .before .before .before .before .before .before .before .before .before .before .before .before .before .before .before .before .before .before .before .loop-test .taken)
+
+loop-again : tie.Need-loop-again Inv-loop μ-loop
+loop-again c =
+    let put = c .before in
+    let stored = put .before .before .before .before .before .before in
+    let kept = stored .before .before .before .before in
+    let step = kept .before .before .before .before .before .before in
+    let at = step .before .before .before .before .before .before in
+    under-on _ _ _ _ _ _ (at .before .loop .inv) _ _ (at .loop-test .taken) (sym (step .before .before .decide .ensures) ∙ ap says (step .v2 .given .1))
+    (rw (put .put-general .ensures, put .before .before .put-float .ensures, stored .store .ensures, kept .keep .ensures))
+    (stored .store .kept .1 .0)
+    (kept .keep .kept .1 .1 .1 .1 .1 .1 .0)
+
+same-length-3 : tie.Need-same-length-3 Inv-loop μ-loop
+same-length-3 c = c .before .loop .inv .memory
+
+same-length-4 : tie.Need-same-length-4 Inv-loop μ-loop
+same-length-4 c = c .before .loop .inv .journal
+
+returns-2 : tie.Need-returns-2 Inv-loop μ-loop
+returns-2 c = sym (under-end _ _ _ _ _ _ (c .before .loop .inv) (c .loop-test .left))
+
+pub advance-spec : {M : Type 1} → statement M
+advance-spec =
+    tie.close
+    (tie.spec
+    Inv-loop
+    μ-loop
+    loop-holds
+    decide-requires
+    enum-known-v
+    same-length
+    same-length-2
+    returns
+    enum-known-v-2
+    keep-requires
+    store-requires
+    put-float-requires
+    put-general-requires
+    add-used
+    add-count
+    loop-less
+    loop-again
+    same-length-3
+    same-length-4
+    returns-2)
