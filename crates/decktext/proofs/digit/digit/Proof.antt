@@ -1,27 +1,31 @@
-use borrow.Author.Tests.{le-leb, lt-leb}
+use Rattle.decktext.proofs.Digits.{is-decimal, is-letter, is-none}
+use mathlib.Core.Path.{_∙_}
+use mathlib.Core.Logic.{⊎-elim}
 use native.Mathlib.Omega.{arith}
-use Prim.Native.Nat.{_≤_, _<_}
 use borrow.Author.Needs.{needs}
 use Rattle.decktext.proofs.digit.digit.Statement.{statement}
 use Rattle.decktext.proofs.digit.digit.Tie as tie
 
-add-result : tie.Need-add-result
-add-result c = search needs
+wrapping-sub-u8-requires : tie.Need-wrapping-sub-u8-requires
+wrapping-sub-u8-requires c κs = search needs
+
+wrapping-sub-u8-requires-2 : tie.Need-wrapping-sub-u8-requires-2
+wrapping-sub-u8-requires-2 c κs = search needs
+
+add-letter : tie.Need-add-letter
+add-letter c = search needs
 
 returns : tie.Need-returns
-returns c = let h : c .before .before .args .b ≤ 57 = omega arith in rw (le-leb 48 _ (c .before .if1 .left), le-leb _ 57 h)
+returns c = is-decimal (c .before .before .before .wrapping-sub-u8 .ensures) (c .if2 .taken)
 
 returns-2 : tie.Need-returns-2
-returns-2 c = let h : c .before .before .before .before .args .b ≤ 70 = omega arith in rw (le-leb 48 _ (c .before .before .before .if1 .left), lt-leb _ 57 (c .before .before .if2 .left), le-leb 65 _ (c .before .if3 .left), le-leb _ 70 h) (omega arith)
-
-returns-3 : tie.Need-returns-3
-returns-3 c = let h : c .before .args .b < 65 = omega arith in rw (lt-leb 48 _ (c .if1 .taken), lt-leb 65 _ h)
-
-returns-4 : tie.Need-returns-4
-returns-4 c = rw (le-leb 48 _ (c .before .before .if1 .left), lt-leb _ 57 (c .before .if2 .left), lt-leb 65 _ (c .if3 .taken))
-
-returns-5 : tie.Need-returns-5
-returns-5 c = rw (le-leb 48 _ (c .before .before .before .if1 .left), lt-leb _ 57 (c .before .before .if2 .left), le-leb 65 _ (c .before .if3 .left), lt-leb _ 70 (c .if4 .left))
+returns-2 c =
+    ⊎-elim
+    (λ w. w .1 ∙ is-letter (c .before .before .wrapping-sub-u82 .ensures) (w .0 .taken))
+    (λ w. w .1 ∙ is-none (c .before .before .before .wrapping-sub-u8 .ensures) (c .before .before .wrapping-sub-u82 .ensures) (omega arith) (omega arith) (c .if2 .left) (w .0 .left))
+    (c .before .if1 .came)
 
 pub digit-spec : {M : Type 1} → statement M
-digit-spec = tie.close (tie.spec add-result returns returns-2 returns-3 returns-4 returns-5)
+digit-spec =
+    tie.close
+    (tie.spec wrapping-sub-u8-requires wrapping-sub-u8-requires-2 add-letter returns returns-2)
