@@ -13,7 +13,7 @@ use Rattle.machine.specs.Says.{provided}
 use Rattle.decktext.specs.Value.{all, isDigit, isHexadecimal, digitOf, numberFrom, plain, decimalOf, wordOf}
 use Rattle.decktext.specs.Walk.{digitIn, numberIn}
 use Rattle.decktext.proofs.Digits.{decimal-digit, hexadecimal-digit, all-same, word-below}
-use Rattle.decktext.proofs.Same.{and-true}
+use Rattle.decktext.proofs.Same.{and-true, single}
 
 -- a number has at least n before its digits
 pub number-grows : (v : List ℕ) (n : ℕ) → n * 10 ^ length v ≤ numberFrom 10 n v
@@ -64,28 +64,25 @@ unfolding decimalOf
 decimal-none [] l = refl
 decimal-none (b ∷ v) l = absurd (omega arith)
 
--- zero itself is 0, and no other decimal begins with a 0
-pub decimal-zero : (v : List ℕ) → length v ≡ 1 → getD v 0 0 ≡ 48 → gives 0 ≡ decimalOf v
-unfolding decimalOf all numberFrom
-decimal-zero [] l e = absurd (omega arith)
-decimal-zero (b ∷ []) l e = rw e
-decimal-zero (b ∷ c ∷ v) l e = absurd (omega arith)
-
+-- more digits have no 0 in front
 pub decimal-leading : (v : List ℕ) → (length v ≡ 0 → ⊥) → (length v ≡ 1 → ⊥) → getD v 0 0 ≡ 48 → stops 16 ≡ decimalOf v
 unfolding decimalOf
 decimal-leading [] l k e = absurd (l refl)
 decimal-leading (b ∷ []) l k e = absurd (k refl)
 decimal-leading (b ∷ c ∷ v) l k e = rw e
 
-pub plain-first : (v : List ℕ) → (length v ≡ 0 → ⊥) → (getD v 0 0 ≡ 48 → ⊥) → plain v ≡ true
-plain-first [] l k = absurd (l refl)
-plain-first (b ∷ []) l k = refl
-plain-first (b ∷ c ∷ v) l k = rw (ne-eqb b 48 k)
-
--- the number of a plain decimal
-pub decimal-number : (v : List ℕ) → plain v ≡ true → numberIn 10 v ≡ decimalOf v
+-- the number of a plain decimal: of one digit, and of digits with no 0 in front
+decimal-plain : (v : List ℕ) → plain v ≡ true → numberIn 10 v ≡ decimalOf v
 unfolding decimalOf numberIn
-decimal-number v p = rw (p, all-same (digitIn 10) isDigit decimal-digit v)
+decimal-plain v p = rw (p, all-same (digitIn 10) isDigit decimal-digit v)
+
+pub decimal-single : (v : List ℕ) → length v ≡ 1 → numberIn 10 v ≡ decimalOf v
+decimal-single v l = decimal-plain v (rw (single v l))
+
+pub decimal-number : (v : List ℕ) → (length v ≡ 0 → ⊥) → (getD v 0 0 ≡ 48 → ⊥) → numberIn 10 v ≡ decimalOf v
+decimal-number [] l k = absurd (l refl)
+decimal-number (b ∷ []) l k = decimal-single (b ∷ []) refl
+decimal-number (b ∷ c ∷ v) l k = decimal-plain (b ∷ c ∷ v) (rw (ne-eqb b 48 k))
 
 -- the number of a word
 word-by : (v : List ℕ) (t : Bool) → length v ≡ 4 → all (digitIn 16) v ≡ t → numberIn 16 v ≡ wordOf v

@@ -12,6 +12,7 @@ pub enum Value {
 }
 
 // No leading zero and at most 65,535, so at most five digits.
+// One digit is a number, 0 too: no branch on it, which the processor would often guess wrongly.
 pub fn decimal(v: &[u8]) -> Value
     ensures { λ r. ⌜ saysValue r ≡ decimalOf (now (v .entry)) ⌝ }
 {
@@ -21,12 +22,11 @@ pub fn decimal(v: &[u8]) -> Value
     if 5 < v.len() {
         return Value::Malformed;
     }
+    if v.len() == 1 {
+        return number(v, 10);
+    }
     if v[0] == b'0' {
-        return if v.len() == 1 {
-            Value::Of(0)
-        } else {
-            Value::Malformed
-        };
+        return Value::Malformed;
     }
     number(v, 10)
 }

@@ -1,4 +1,4 @@
-use Rattle.decktext.proofs.Decimals.{plain-first, decimal-none, decimal-long, decimal-zero, decimal-leading, decimal-number}
+use Rattle.decktext.proofs.Decimals.{decimal-none, decimal-long, decimal-single, decimal-leading, decimal-number}
 use mathlib.Core.Path.{_∙_}
 use borrow.Author.Needs.{needs}
 use Rattle.decktext.proofs.value.decimal.Statement.{statement}
@@ -10,20 +10,23 @@ returns c = decimal-none _ (c .if1 .taken)
 returns-2 : tie.Need-returns-2
 returns-2 c = decimal-long _ (c .if2 .taken)
 
-shared-slice-read-if3 : tie.Need-shared-slice-read-if3
-shared-slice-read-if3 c = search needs
-
-returns-3 : tie.Need-returns-3
-returns-3 c = decimal-zero _ (c .if4 .taken) (c .before .if3 .taken)
-
-returns-4 : tie.Need-returns-4
-returns-4 c = decimal-leading _ (c .before .before .before .before .if1 .left) (c .if4 .left) (c .before .if3 .taken)
-
 number-requires : tie.Need-number-requires
 number-requires c κs = search needs
 
+returns-3 : tie.Need-returns-3
+returns-3 c = c .number .ensures ∙ decimal-single _ (c .before .if3 .taken)
+
+shared-slice-read-if4 : tie.Need-shared-slice-read-if4
+shared-slice-read-if4 c = search needs
+
+returns-4 : tie.Need-returns-4
+returns-4 c = decimal-leading _ (c .before .before .before .before .if1 .left) (c .before .before .if3 .left) (c .if4 .taken)
+
+number-requires-2 : tie.Need-number-requires-2
+number-requires-2 c κs = search needs
+
 returns-5 : tie.Need-returns-5
-returns-5 c = c .number .ensures ∙ decimal-number (c .before .before .before .before .before .before .args .v .now) (plain-first (c .before .before .before .before .before .before .args .v .now) (c .before .before .before .before .if1 .left) (c .before .if3 .left))
+returns-5 c = c .number2 .ensures ∙ decimal-number _ (c .before .before .before .before .before .if1 .left) (c .before .if4 .left)
 
 pub decimal-spec : {M : Type 1} → statement M
 decimal-spec =
@@ -31,8 +34,9 @@ decimal-spec =
     (tie.spec
     returns
     returns-2
-    shared-slice-read-if3
-    returns-3
-    returns-4
     number-requires
+    returns-3
+    shared-slice-read-if4
+    returns-4
+    number-requires-2
     returns-5)
