@@ -8,6 +8,7 @@ use native.Mathlib.Omega.{arith}
 use lib.ListN.{length, getD, take, drop, drop-of-length-le}
 use lib.Dec.{eqb}
 use lib.Seq.{take-nil, drop-nil, take-take, take-all, drop-drop, getD-take, getD-drop, slice, length-slice}
+use borrow.Author.Count.{below-more}
 use borrow.Author.Tests.{eq-eqb, ne-eqb}
 use Rattle.decktext.specs.Text.{ended, unended, linesOf, prefixed, valuesOf}
 use Rattle.decktext.specs.Walk.{Stretch}
@@ -123,3 +124,23 @@ some-value (x ∷ s) = by (eqb x 32) (some-value s)
     by : (t : Bool) → ((v : List ℕ) × (vs : List (List ℕ)) × (valuesOf s ≡ v ∷ vs)) → (v : List ℕ) × (vs : List (List ℕ)) × (cond t ([] ∷ valuesOf s) (prefixed x (valuesOf s)) ≡ v ∷ vs)
     by true q = ([], valuesOf s, refl)
     by false q = (x ∷ q .0, q .1, rw (q .2))
+
+-- ---- a search, place by place: what holds of the places passed, and its laws (start, on, found, none)
+
+-- no place from `from` on, and before i, holds b
+pub record Passed (t : List ℕ) (from b i : ℕ) : Type 0 where
+  pub low : from ≤ i
+  pub before : (k : ℕ) → k < i → from ≤ k → getD t k 0 ≡ b → ⊥
+
+pub start : (t : List ℕ) (from b : ℕ) → Passed t from b from
+start t from b = record { low = le-refl from; before = λ k h l e. omega arith }
+
+module _ {t : List ℕ} {from b i : ℕ} (p : Passed t from b i) where
+  pub on : (getD t i 0 ≡ b → ⊥) → Passed t from b (i + 1)
+  on h = record { low = omega (arith, p .low); before = below-more _ i (p .before) (λ l. h) }
+
+  pub found : (end : ℕ) → i ≤ end → getD t i 0 ≡ b → Stretch t from end b i
+  found end h e = record { low = p .low; high = h; before = p .before; found = λ l. e }
+
+  pub none : (end : ℕ) → from ≤ end → end ≤ i → Stretch t from end b end
+  none end l h = record { low = l; high = le-refl end; before = λ k g. p .before k (omega arith); found = λ l. absurd (omega arith) }

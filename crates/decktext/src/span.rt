@@ -6,18 +6,27 @@ ghost use Rattle.decktext.specs.Text.{same};
 ghost use Rattle.decktext.specs.Walk.{Stretch};
 
 // The first place from `from` on, and before `end`, that holds the byte b, or `end`.
+// Two bytes a turn: the end is tested half as often.
 pub fn find(text: &[u8], from: usize, end: usize, b: u8) -> usize
     requires { ⌜ (from ≤ end) × (end ≤ length (now text)) ⌝ }
     ensures { λ r. ⌜ Stretch (now (text .entry)) from end b r ⌝ }
 {
     let mut i = from;
-    while i < end {
+    while i + 1 < end {
         if text[i] == b {
             return i;
         }
-        i += 1;
+        if text[i + 1] == b {
+            return i + 1;
+        }
+        i += 2;
     }
-    i
+    if i < end {
+        if text[i] == b {
+            return i;
+        }
+    }
+    end
 }
 
 // The same bytes.
