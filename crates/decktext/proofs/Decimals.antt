@@ -65,13 +65,13 @@ decimal-none [] l = refl
 decimal-none (b ∷ v) l = absurd (omega arith)
 
 -- more digits have no 0 in front
-pub decimal-leading : (v : List ℕ) → (length v ≡ 0 → ⊥) → (length v ≡ 1 → ⊥) → getD v 0 0 ≡ 48 → stops 16 ≡ decimalOf v
+pub decimal-leading : (v : List ℕ) → 1 < length v → getD v 0 0 ≡ 48 → stops 16 ≡ decimalOf v
 unfolding decimalOf
-decimal-leading [] l k e = absurd (l refl)
-decimal-leading (b ∷ []) l k e = absurd (k refl)
-decimal-leading (b ∷ c ∷ v) l k e = rw e
+decimal-leading [] l e = absurd (omega arith)
+decimal-leading (b ∷ []) l e = absurd (omega arith)
+decimal-leading (b ∷ c ∷ v) l e = rw e
 
--- the number of a plain decimal: of one digit, and of digits with no 0 in front
+-- the number of a plain decimal: of one digit, and of more with no 0 in front
 decimal-plain : (v : List ℕ) → plain v ≡ true → numberIn 10 v ≡ decimalOf v
 unfolding decimalOf numberIn
 decimal-plain v p = rw (p, all-same (digitIn 10) isDigit decimal-digit v)
@@ -79,10 +79,10 @@ decimal-plain v p = rw (p, all-same (digitIn 10) isDigit decimal-digit v)
 pub decimal-single : (v : List ℕ) → length v ≡ 1 → numberIn 10 v ≡ decimalOf v
 decimal-single v l = decimal-plain v (rw (single v l))
 
-pub decimal-number : (v : List ℕ) → (length v ≡ 0 → ⊥) → (getD v 0 0 ≡ 48 → ⊥) → numberIn 10 v ≡ decimalOf v
-decimal-number [] l k = absurd (l refl)
-decimal-number (b ∷ []) l k = decimal-single (b ∷ []) refl
-decimal-number (b ∷ c ∷ v) l k = decimal-plain (b ∷ c ∷ v) (rw (ne-eqb b 48 k))
+pub decimal-number : (v : List ℕ) → 1 < length v → (getD v 0 0 ≡ 48 → ⊥) → numberIn 10 v ≡ decimalOf v
+decimal-number [] l h = absurd (omega arith)
+decimal-number (b ∷ []) l h = absurd (omega arith)
+decimal-number (b ∷ c ∷ v) l h = decimal-plain (b ∷ c ∷ v) (rw (ne-eqb b 48 h))
 
 -- the number of a word
 word-by : (v : List ℕ) (t : Bool) → length v ≡ 4 → all (digitIn 16) v ≡ t → numberIn 16 v ≡ wordOf v

@@ -44,16 +44,8 @@ pub fn advance(
     let mut used = first;
     let mut count: u32 = 0;
     while count < limit {
-        let v = decide(
-            float,
-            general,
-            status,
-            used,
-            deck,
-            memory,
-            protect,
-            journal.len(),
-        );
+        let words = journal.len();
+        let v = decide(float, general, status, used, deck, memory, protect, words);
         match v {
             Verdict::Refused(stop) => {
                 return Advanced {

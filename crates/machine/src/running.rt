@@ -1,8 +1,8 @@
 // Runs.
 use crate::advance::advance;
 use crate::decide::entry;
-use crate::state::Registers;
 use crate::state::State;
+use crate::state::assemble;
 use crate::stop::Stop;
 use crate::stop::number;
 ghost use mathlib.Core.Path.{_≡_};
@@ -31,14 +31,9 @@ pub fn run(
 {
     let registers = s.registers;
     let start = registers.status;
-    let checks = entry(
-        start,
-        s.used,
-        deck.len(),
-        protect.len(),
-        memory.len(),
-        journal.len(),
-    );
+    let used = s.used;
+    let words = journal.len();
+    let checks = entry(start, used, deck.len(), protect.len(), memory.len(), words);
     if number(checks) != 0 {
         return Ran {
             state: s,
@@ -52,7 +47,7 @@ pub fn run(
         &mut float,
         &mut general,
         start,
-        s.used,
+        used,
         deck,
         memory,
         protect,
@@ -60,18 +55,8 @@ pub fn run(
         limit,
     );
     let status = r.status;
+    let state = assemble(float, general, status, r.used);
+    let count = r.count;
     let stop = r.stop;
-    let after = Registers {
-        float,
-        general,
-        status,
-    };
-    Ran {
-        state: State {
-            registers: after,
-            used: r.used,
-        },
-        count: r.count,
-        stop,
-    }
+    Ran { state, count, stop }
 }

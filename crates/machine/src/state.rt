@@ -1,6 +1,7 @@
 // The state, and its fresh form.
 ghost use mathlib.Core.Path.{_≡_};
 ghost use Rattle.machine.specs.Fresh.{freshState};
+ghost use Rattle.machine.specs.Machine.{registers, state};
 
 // What word 0 of a record saves: condition code, underflow mask, and the order that comes next.
 #[repr(C)]
@@ -25,6 +26,19 @@ pub struct State {
     pub used: u32,
 }
 
+// The state of these parts.
+pub fn assemble(float: [u32; 8], general: [u32; 8], status: Status, used: u32) -> State
+    ensures { λ r. ⌜ r ≡ state (registers float general status) used ⌝ }
+{
+    let registers = Registers {
+        float,
+        general,
+        status,
+    };
+    State { registers, used }
+}
+
+// The state of a machine that was just switched on.
 pub fn fresh() -> State
     ensures { λ r. ⌜ r ≡ freshState ⌝ }
 {

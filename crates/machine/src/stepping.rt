@@ -1,7 +1,7 @@
 // One step.
 use crate::advance::advance;
-use crate::state::Registers;
 use crate::state::State;
+use crate::state::assemble;
 use crate::stop::Stop;
 ghost use mathlib.Core.Path.{_≡_};
 ghost use Rattle.machine.specs.Stops.{numberOf};
@@ -40,17 +40,7 @@ pub fn step(
         1,
     );
     let status = r.status;
+    let state = assemble(float, general, status, r.used);
     let stop = r.stop;
-    let after = Registers {
-        float,
-        general,
-        status,
-    };
-    Stepped {
-        state: State {
-            registers: after,
-            used: r.used,
-        },
-        stop,
-    }
+    Stepped { state, stop }
 }

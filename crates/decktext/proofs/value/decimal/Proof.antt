@@ -1,5 +1,6 @@
 use Rattle.decktext.proofs.Decimals.{decimal-none, decimal-long, decimal-single, decimal-leading, decimal-number}
 use mathlib.Core.Path.{_∙_}
+use native.Mathlib.Omega.{arith}
 use borrow.Author.Needs.{needs}
 use Rattle.decktext.proofs.value.decimal.Statement.{statement}
 use Rattle.decktext.proofs.value.decimal.Tie as tie
@@ -14,19 +15,19 @@ number-requires : tie.Need-number-requires
 number-requires c κs = search needs
 
 returns-3 : tie.Need-returns-3
-returns-3 c = c .number .ensures ∙ decimal-single _ (c .before .if3 .taken)
+returns-3 c = c .number .ensures ∙ decimal-single _ (omega arith)
 
 shared-slice-read-if4 : tie.Need-shared-slice-read-if4
 shared-slice-read-if4 c = search needs
 
 returns-4 : tie.Need-returns-4
-returns-4 c = decimal-leading _ (c .before .before .before .before .if1 .left) (c .before .before .if3 .left) (c .if4 .taken)
+returns-4 c = decimal-leading _ (omega arith) (c .if4 .taken)
 
 number-requires-2 : tie.Need-number-requires-2
 number-requires-2 c κs = search needs
 
 returns-5 : tie.Need-returns-5
-returns-5 c = c .number2 .ensures ∙ decimal-number _ (c .before .before .before .before .before .if1 .left) (c .before .if4 .left)
+returns-5 c = c .number2 .ensures ∙ decimal-number _ (omega arith) (c .before .if4 .left)
 
 pub decimal-spec : {M : Type 1} → statement M
 decimal-spec =

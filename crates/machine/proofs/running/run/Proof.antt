@@ -23,6 +23,9 @@ returns c =
 advance-requires : tie.Need-advance-requires
 advance-requires c κs = search needs
 
+assemble-requires : tie.Need-assemble-requires
+assemble-requires c κs = search needs
+
 same-length : tie.Need-same-length
 same-length c = search needs
 
@@ -32,11 +35,11 @@ same-length-2 c = search needs
 returns-2 : tie.Need-returns-2
 unfolding ran
 returns-2 c =
-    let went = c .before .before .before .before .before in
+    let went = c .before .before .before .before .before .before in
     let entered = went .before .before .before .before .before .before .before in
     let checks = entered .before .before .entry in
     let zero = sym (entered .before .number .ensures) ∙ entered .if1 .left in
-    rw (← checks .ensures, eq-eqb (numberOf (checks .result)) 0 zero) (went .advance .ensures)
+    rw (c .assemble .ensures, ← checks .ensures, eq-eqb (numberOf (checks .result)) 0 zero) (went .advance .ensures)
 
 pub run-spec : {M : Type 1} → statement M
 run-spec =
@@ -46,6 +49,7 @@ run-spec =
     number-requires
     returns
     advance-requires
+    assemble-requires
     same-length
     same-length-2
     returns-2)

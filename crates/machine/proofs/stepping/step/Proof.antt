@@ -8,6 +8,9 @@ use Rattle.machine.proofs.stepping.step.Tie as tie
 advance-requires : tie.Need-advance-requires
 advance-requires c κs = search needs
 
+assemble-requires : tie.Need-assemble-requires
+assemble-requires c κs = search needs
+
 same-length : tie.Need-same-length
 same-length c = search needs
 
@@ -15,7 +18,8 @@ same-length-2 : tie.Need-same-length-2
 same-length-2 c = search needs
 
 returns : tie.Need-returns
-returns c = one-step _ _ _ _ _ _ (c .before .before .before .before .before .advance .ensures)
+returns c = rw (c .assemble .ensures) (one-step _ _ _ _ _ _ (c .before .before .before .before .before .before .advance .ensures))
 
 pub step-spec : {M : Type 1} → statement M
-step-spec = tie.close (tie.spec advance-requires same-length same-length-2 returns)
+step-spec =
+    tie.close (tie.spec advance-requires assemble-requires same-length same-length-2 returns)
