@@ -12,6 +12,7 @@ use crate::line::sizes_of;
 use crate::line::start;
 use crate::line::value;
 use crate::line::values_wanted;
+use crate::reader::LineSpan;
 use crate::reader::next_line;
 use crate::span::find;
 use crate::value::Value;
@@ -89,11 +90,10 @@ fn walk(
     let mut p = start();
     let mut at = 0;
     let mut line: u32 = 1;
-    let mut k = 0;
+    let mut halfwords = 0;
     let mut fault = Fault::Nothing;
     'lines: while at < text.len() {
-        let found = next_line(text, at);
-        let end = found.end;
+        let LineSpan { end, next } = next_line(text, at);
         if end == text.len() {
             fault = Fault::Malformed;
             break 'lines;
@@ -118,15 +118,13 @@ fn walk(
             fault = fault_of(judged);
             break 'lines;
         };
-        k = stage(g, p.count, k, staged);
+        halfwords = stage(g, p.count, halfwords, staged);
         p = advance(p, g);
-        at = found.next;
+        at = next;
         line += 1;
     }
-    Found {
-        reading: conclude(fault, line, p),
-        halfwords: k,
-    }
+    let reading = conclude(fault, line, p);
+    Found { reading, halfwords }
 }
 
 fn fault_of(j: Judged) -> Fault

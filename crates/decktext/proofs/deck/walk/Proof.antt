@@ -24,10 +24,10 @@ use Rattle.decktext.proofs.deck.walk.Statement.{statement}
 use Rattle.decktext.proofs.deck.walk.Tie as tie
 
 abbrev Inv-loop : tie.InvT-loop
-Inv-loop text cells memory protect staged sizes p at line k fault₀ found end w wanted values₀ from₀ i₀ fault values from i = (fault ≡ fault₀) × Taking (valueAs (wantedOf w)) wanted text at end from i values
+Inv-loop text cells memory protect staged sizes p at line k fault₀ end next w wanted values₀ from₀ i₀ fault values from i = (fault ≡ fault₀) × Taking (valueAs (wantedOf w)) wanted text at end from i values
 
 abbrev μ-loop : tie.MeasureT-loop
-μ-loop text cells memory protect staged sizes p at line k fault₀ found end w wanted values₀ from₀ i₀ fault values from i = wanted - i
+μ-loop text cells memory protect staged sizes p at line k fault₀ end next w wanted values₀ from₀ i₀ fault values from i = wanted - i
 
 abbrev Inv-lines : tie.InvT-lines
 Inv-lines text cells memory protect staged₀ sizes p₀ at₀ line₀ k₀ fault₀ staged p at line k fault = (fault ≡ Fault.Nothing) × Walking text (buffers cells memory protect) sizes p at line k staged
@@ -43,7 +43,7 @@ abbrev lent : tie.At-lines Inv-loop μ-loop Inv-lines μ-lines → Buffers
 lent c = buffers (c .before .before .before .before .before .before .before .args .cells .now) (c .before .before .before .before .before .before .before .args .memory .now) (c .before .before .before .before .before .before .before .args .protect .now)
 
 abbrev progress : tie.At-lines Inv-loop μ-loop Inv-lines μ-lines → Progress
-progress c = reached (c .lines .p) (c .lines .k) (c .lines .staged) (lent c)
+progress c = reached (c .lines .p) (c .lines .halfwords) (c .lines .staged) (lent c)
 
 limit : (c : tie.At-lines Inv-loop μ-loop Inv-lines μ-lines) → length (text c) ≤ 32768
 limit c = c .before .before .before .before .before .before .before .pre .0
@@ -101,7 +101,7 @@ given : (c : tie.After-known-told2 Inv-loop μ-loop Inv-lines μ-lines) → line
 given c = answer (c .before .before .before) ∙ ap saysJudged (c .before .judged .given .1)
 
 -- the four ways out of the walk
-left : (c : tie.Left-lines Inv-loop μ-loop Inv-lines μ-lines) → Left (text (c .before)) (lent (c .before)) (c .before .lines .p) (c .lines-test .fault) (c .before .lines .line) (c .before .lines .k) (c .before .lines .staged)
+left : (c : tie.Left-lines Inv-loop μ-loop Inv-lines μ-lines) → Left (text (c .before)) (lent (c .before)) (c .before .lines .p) (c .lines-test .fault) (c .before .lines .line) (c .before .lines .halfwords) (c .before .lines .staged)
 left c =
     ⊎-elim
     (λ w. at-end (c .before .lines .inv .1) (limit (c .before)) (w .0 .left) (c .lines-test .fault) (w .1 ∙ c .before .lines .inv .0))
@@ -222,7 +222,7 @@ conclude-requires : tie.Need-conclude-requires Inv-loop μ-loop Inv-lines μ-lin
 conclude-requires c κs = search needs
 
 returns : tie.Need-returns Inv-loop μ-loop Inv-lines μ-lines
-returns c = walked (record { reading = c .conclude .result; halfwords = c .before .before .lines .k }) (left (c .before)) (c .conclude .ensures) refl
+returns c = walked (record { reading = c .conclude .result; halfwords = c .before .before .lines .halfwords }) (left (c .before)) (c .conclude .ensures) refl
 
 pub walk-spec : {M : Type 1} → statement M
 walk-spec =
