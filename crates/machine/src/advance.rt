@@ -1,6 +1,5 @@
 // Steps on lent registers: the one place that has the code of a step.
-use crate::change::put_float;
-use crate::change::put_general;
+use crate::change::put;
 use crate::change::store;
 use crate::decide::decide;
 use crate::journal::keep;
@@ -59,8 +58,7 @@ pub fn advance(
                 let change = e.change;
                 keep(float, general, status, used, e, memory, journal);
                 store(change, memory);
-                put_float(change, float);
-                put_general(change, general);
+                put(change, float, general);
                 status = e.status;
                 used += 1;
             }

@@ -104,10 +104,10 @@ pub fn old(float: &[u32; 8], general: &[u32; 8], memory: &[u16], ch: Change) -> 
     }
 }
 
-// The float registers after a change, in place.
-pub fn put_float(ch: Change, float: &mut [u32; 8])
+// A change of registers, in place.
+pub fn put(ch: Change, float: &mut [u32; 8], general: &mut [u32; 8])
     requires { ⌜ registered ch ≡ true ⌝ }
-    ensures { λ _. ⌜ now (float .exit) ≡ floatAfter ch (now (float .entry)) ⌝ }
+    ensures { λ _. ⌜ (now (float .exit) ≡ floatAfter ch (now (float .entry))) × (now (general .exit) ≡ generalAfter ch (now (general .entry))) ⌝ }
 {
     match ch {
         Change::Nothing => {}
@@ -118,21 +118,6 @@ pub fn put_float(ch: Change, float: &mut [u32; 8])
             float[r as usize] = hi;
             float[(r as usize + 1) % 8] = lo;
         }
-        Change::General(r, w) => {}
-        Change::Two(at, w) => {}
-        Change::Four(at, hi, lo) => {}
-    }
-}
-
-// The general registers after a change, in place.
-pub fn put_general(ch: Change, general: &mut [u32; 8])
-    requires { ⌜ registered ch ≡ true ⌝ }
-    ensures { λ _. ⌜ now (general .exit) ≡ generalAfter ch (now (general .entry)) ⌝ }
-{
-    match ch {
-        Change::Nothing => {}
-        Change::Float(r, w) => {}
-        Change::Pair(r, hi, lo) => {}
         Change::General(r, w) => {
             general[r as usize] = w;
         }
@@ -147,11 +132,14 @@ pub fn registers_after(e: Effect, g: Registers) -> Registers
 {
     let ch = e.change;
     let status = e.status;
-    let mut after = g;
-    put_float(ch, &mut after.float);
-    put_general(ch, &mut after.general);
-    after.status = status;
-    after
+    let mut float = g.float;
+    let mut general = g.general;
+    put(ch, &mut float, &mut general);
+    Registers {
+        float,
+        general,
+        status,
+    }
 }
 
 fn put_word(memory: &mut [u16], at: usize, w: u32)

@@ -51,38 +51,33 @@ store-requires c κs =
     let step = c .before .before .before .before .before .before .before .before .before in
     committable _ _ _ _ _ _ _ (sym (step .before .before .decide .ensures) ∙ ap says (step .v2 .given .1)) .there
 
-put-float-requires : tie.Need-put-float-requires Inv-loop μ-loop
-put-float-requires c κs =
-    let step = c .before .before .before .before .before .before .before .before .before .before .before .before .before in
-    committable _ _ _ _ _ _ _ (sym (step .before .before .decide .ensures) ∙ ap says (step .v2 .given .1)) .register
-
-put-general-requires : tie.Need-put-general-requires Inv-loop μ-loop
-put-general-requires c κs =
-    let step = c .before .before .before .before .before .before .before .before .before .before .before .before .before .before .before in
+put-requires : tie.Need-put-requires Inv-loop μ-loop
+put-requires c κs =
+    let step = c .before .before .before .before .before .before .before .before .before .before .before .before .before .before in
     committable _ _ _ _ _ _ _ (sym (step .before .before .decide .ensures) ∙ ap says (step .v2 .given .1)) .register
 
 add-used : tie.Need-add-used Inv-loop μ-loop
 add-used c =
-    let step = c .before .before .before .before .before .before .before .before .before .before .before .before .before .before .before .before .before in
+    let step = c .before .before .before .before .before .before .before .before .before .before .before .before .before .before .before .before in
     omega (arith, committable _ _ _ _ _ _ _ (sym (step .before .before .decide .ensures) ∙ ap says (step .v2 .given .1)) .count)
 
 add-count : tie.Need-add-count Inv-loop μ-loop
 add-count c =
-    let at = c .before .before .before .before .before .before .before .before .before .before .before .before .before .before .before .before .before .before .before .before .before .before .before in
+    let at = c .before .before .before .before .before .before .before .before .before .before .before .before .before .before .before .before .before .before .before .before .before .before in
     omega (arith, at .loop-test .taken, at .before .before .before .before .before .before .fits .limit .fits)
 
 loop-less : tie.Need-loop-less Inv-loop μ-loop
-loop-less c = omega (arith, c .before .before .before .before .before .before .before .before .before .before .before .before .before .before .before .before .before .before .before .before .before .before .before .loop-test .taken)
+loop-less c = omega (arith, c .before .before .before .before .before .before .before .before .before .before .before .before .before .before .before .before .before .before .before .before .before .before .loop-test .taken)
 
 loop-again : tie.Need-loop-again Inv-loop μ-loop
 loop-again c =
-    let put = c .before in
-    let stored = put .before .before .before .before .before .before in
+    let after = c .before .put .ensures in
+    let stored = c .before .before .before .before .before .before in
     let kept = stored .before .before .before .before in
     let step = kept .before .before .before .before .before .before in
     let at = step .before .before .before .before .before .before in
     under-on _ _ _ _ _ _ (at .before .loop .inv) _ _ (at .loop-test .taken) (sym (step .before .before .decide .ensures) ∙ ap says (step .v2 .given .1))
-    (rw (put .put-general .ensures, put .before .before .put-float .ensures, stored .store .ensures, kept .keep .ensures))
+    (rw (after .0, after .1, stored .store .ensures, kept .keep .ensures))
     (stored .store .kept .1 .0)
     (kept .keep .kept .1 .1 .1 .1 .1 .1 .0)
 
@@ -110,8 +105,7 @@ advance-spec =
     enum-known-v-2
     keep-requires
     store-requires
-    put-float-requires
-    put-general-requires
+    put-requires
     add-used
     add-count
     loop-less

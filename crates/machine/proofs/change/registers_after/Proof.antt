@@ -1,17 +1,14 @@
--- `machine::change::registers_after` meets its contract: both register sets in turn.
+-- `machine::change::registers_after` meets its contract: by the callee.
 -- Assumes nothing.
 use borrow.Author.Needs.{needs}
 use Rattle.machine.proofs.change.registers_after.Statement.{statement}
 use Rattle.machine.proofs.change.registers_after.Tie as tie
 
-put-float-requires : tie.Need-put-float-requires
-put-float-requires c κs = search needs
-
-put-general-requires : tie.Need-put-general-requires
-put-general-requires c κs = search needs
+put-requires : tie.Need-put-requires
+put-requires c κs = search needs
 
 returns : tie.Need-returns
-returns c = rw (c .put-general .ensures, c .before .before .put-float .ensures)
+returns c = rw (c .put .ensures .0, c .put .ensures .1)
 
 pub registers-after-spec : {M : Type 1} → statement M
-registers-after-spec = tie.close (tie.spec put-float-requires put-general-requires returns)
+registers-after-spec = tie.close (tie.spec put-requires returns)

@@ -1,11 +1,11 @@
--- `machine::change::put_float` meets its contract: each arm computes its case.
+-- `machine::change::put` meets its contract: each arm computes its case for both sets.
 -- Assumes nothing.
 use native.Mathlib.Omega.{arith}
 use borrow.Author.Needs.{needs}
-use Rattle.machine.specs.Change.{floatAfter}
-use Rattle.machine.proofs.Placed.{registered-float, registered-pair}
-use Rattle.machine.proofs.change.put_float.Statement.{statement}
-use Rattle.machine.proofs.change.put_float.Tie as tie
+use Rattle.machine.specs.Change.{floatAfter, generalAfter}
+use Rattle.machine.proofs.Placed.{registered-float, registered-pair, registered-general}
+use Rattle.machine.proofs.change.put.Statement.{statement}
+use Rattle.machine.proofs.change.put.Tie as tie
 
 enum-told : tie.Need-enum-told
 enum-told c = search needs
@@ -49,6 +49,15 @@ element-write-float-3 c = search needs
 enum-known-ch-3 : tie.Need-enum-known-ch-3
 enum-known-ch-3 c = search needs
 
+cast-general : tie.Need-cast-general
+cast-general c = search needs
+
+mul-general : tie.Need-mul-general
+mul-general c = search needs
+
+element-write-general : tie.Need-element-write-general
+element-write-general c = omega (arith, registered-general (c .before .ch3 .given .1) (c .before .before .before .pre))
+
 enum-known-ch-4 : tie.Need-enum-known-ch-4
 enum-known-ch-4 c = search needs
 
@@ -56,31 +65,31 @@ enum-known-ch-5 : tie.Need-enum-known-ch-5
 enum-known-ch-5 c = search needs
 
 returns : tie.Need-returns
-unfolding floatAfter
-returns c = rw (c .enum-told .given .1)
+unfolding floatAfter generalAfter
+returns c = (rw (c .enum-told .given .1), rw (c .enum-told .given .1))
 
 returns-2 : tie.Need-returns-2
-unfolding floatAfter
-returns-2 c = rw (c .before .ch .given .1)
+unfolding floatAfter generalAfter
+returns-2 c = (rw (c .before .ch .given .1), rw (c .before .ch .given .1))
 
 returns-3 : tie.Need-returns-3
-unfolding floatAfter
-returns-3 c = rw (c .before .ch2 .given .1)
+unfolding floatAfter generalAfter
+returns-3 c = (rw (c .before .ch2 .given .1), rw (c .before .ch2 .given .1))
 
 returns-4 : tie.Need-returns-4
-unfolding floatAfter
-returns-4 c = rw (c .before .ch3 .given .1)
+unfolding floatAfter generalAfter
+returns-4 c = (rw (c .before .ch3 .given .1), rw (c .before .ch3 .given .1))
 
 returns-5 : tie.Need-returns-5
-unfolding floatAfter
-returns-5 c = rw (c .before .ch4 .given .1)
+unfolding floatAfter generalAfter
+returns-5 c = (rw (c .before .ch4 .given .1), rw (c .before .ch4 .given .1))
 
 returns-6 : tie.Need-returns-6
-unfolding floatAfter
-returns-6 c = rw (c .before .ch5 .given .1)
+unfolding floatAfter generalAfter
+returns-6 c = (rw (c .before .ch5 .given .1), rw (c .before .ch5 .given .1))
 
-pub put-float-spec : {M : Type 1} → statement M
-put-float-spec =
+pub put-spec : {M : Type 1} → statement M
+put-spec =
     tie.close
     (tie.spec
     enum-told
@@ -97,6 +106,9 @@ put-float-spec =
     mul-float-3
     element-write-float-3
     enum-known-ch-3
+    cast-general
+    mul-general
+    element-write-general
     enum-known-ch-4
     enum-known-ch-5
     returns
