@@ -36,7 +36,7 @@ same-length-2 c = c .before .before .before .before .before .before .before .bef
 returns : tie.Need-returns Inv-loop μ-loop
 returns c =
     let at = c .before .before .before .before .before .before .before in
-    sym (under-stop _ _ _ _ _ _ (at .before .loop .inv) _ (at .loop-test .taken) (sym (c .before .before .before .decide .ensures) ∙ ap says (c .before .v .given .1)))
+    sym (under-stop _ _ _ _ _ _ (at .before .loop .inv) _ (omega (arith, at .loop-test .taken)) (sym (c .before .before .before .decide .ensures) ∙ ap says (c .before .v .given .1)))
 
 enum-known-v-2 : tie.Need-enum-known-v-2 Inv-loop μ-loop
 enum-known-v-2 c = search needs
@@ -76,7 +76,7 @@ loop-again c =
     let kept = stored .before .before .before .before in
     let step = kept .before .before .before .before .before .before in
     let at = step .before .before .before .before .before .before in
-    under-on _ _ _ _ _ _ (at .before .loop .inv) _ _ (at .loop-test .taken) (sym (step .before .before .decide .ensures) ∙ ap says (step .v2 .given .1))
+    under-on _ _ _ _ _ _ (at .before .loop .inv) _ _ (omega (arith, at .loop-test .taken)) (sym (step .before .before .decide .ensures) ∙ ap says (step .v2 .given .1))
     (rw (after .0, after .1, stored .store .ensures, kept .keep .ensures))
     (stored .store .kept .1 .0)
     (kept .keep .kept .1 .1 .1 .1 .1 .1 .0)
@@ -88,7 +88,7 @@ same-length-4 : tie.Need-same-length-4 Inv-loop μ-loop
 same-length-4 c = c .before .loop .inv .journal
 
 returns-2 : tie.Need-returns-2 Inv-loop μ-loop
-returns-2 c = sym (under-end _ _ _ _ _ _ (c .before .loop .inv) (c .loop-test .left))
+returns-2 c = sym (under-end _ _ _ _ _ _ (c .before .loop .inv) (omega (arith, c .loop-test .left)))
 
 pub advance-spec : {M : Type 1} → statement M
 advance-spec =

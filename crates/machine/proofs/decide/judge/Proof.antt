@@ -1,6 +1,7 @@
 -- `machine::decide::judge` meets its contract: each `return` rewrites with the checks that led there.
 -- Assumes nothing.
 use borrow.Author.Tests.{lt-ltb, le-ltb, leb-true, leb-false, not-true, not-false}
+use native.Mathlib.Omega.{arith}
 use mathlib.Core.Path.{sym, _∙_}
 use Prim.Native.Nat.{_/_}
 use borrow.Author.Needs.{needs}
@@ -18,7 +19,10 @@ returns c = rw (← c .before .halts .ensures, c .if1 .taken)
 
 returns-2 : tie.Need-returns-2
 unfolding judged
-returns-2 c = rw (← c .before .before .halts .ensures, c .before .if1 .left, le-ltb _ _ (leb-true _ _ (c .if2 .taken)))
+returns-2 c =
+    let a = c .before .before .before .before .before .args in
+    let none = le-ltb (a .used) (a .journal / 4) (omega (arith, leb-true _ (a .used) (c .if2 .taken))) in
+    rw (← c .before .before .halts .ensures, c .before .if1 .left, none)
 
 address-requires : tie.Need-address-requires
 address-requires c κs = search needs
@@ -33,7 +37,7 @@ returns-3 : tie.Need-returns-3
 unfolding judged
 returns-3 c =
     let a = c .before .before .before .before .before .before .before .before .before .args in
-    let room = lt-ltb (a .used) (a .journal / 4) (leb-false (a .journal / 4) (a .used) (c .before .before .before .before .if2 .left)) in
+    let room = lt-ltb (a .used) (a .journal / 4) (omega (arith, leb-false _ (a .used) (c .before .before .before .before .if2 .left))) in
     rw (
       ← c .before .before .before .before .before .before .halts .ensures,
       c .before .before .before .before .before .if1 .left,
@@ -60,7 +64,7 @@ returns-4 : tie.Need-returns-4
 unfolding judged
 returns-4 c =
     let a = c .before .before .before .before .before .before .before .before .before .before .before .before .args in
-    let room = lt-ltb (a .used) (a .journal / 4) (leb-false (a .journal / 4) (a .used) (c .before .before .before .before .before .before .before .if2 .left)) in
+    let room = lt-ltb (a .used) (a .journal / 4) (omega (arith, leb-false _ (a .used) (c .before .before .before .before .before .before .before .if2 .left))) in
     rw (
       ← c .before .before .before .before .before .before .before .before .before .halts .ensures,
       c .before .before .before .before .before .before .before .before .if1 .left,
@@ -87,7 +91,7 @@ returns-5 : tie.Need-returns-5
 unfolding judged
 returns-5 c =
     let a = c .before .before .before .before .before .before .before .before .before .before .before .before .before .args in
-    let room = lt-ltb (a .used) (a .journal / 4) (leb-false (a .journal / 4) (a .used) (c .before .before .before .before .before .before .before .before .if2 .left)) in
+    let room = lt-ltb (a .used) (a .journal / 4) (omega (arith, leb-false _ (a .used) (c .before .before .before .before .before .before .before .before .if2 .left))) in
     let there = rw (c .before .before .before .before .before .before .span .ensures, c .before .before .before .before .before .before .before .address .ensures) at (sym (c .before .before .before .before .before .is-present .ensures) ∙ not-false (c .before .before .before .before .before .is-present .result) (c .before .before .before .before .if3 .left)) in
     let free = rw (c .before .before .before .stored .ensures, c .before .before .before .before .before .before .before .address .ensures) at (sym (c .before .before .any-protected .ensures) ∙ c .before .if4 .left) in
     rw (
