@@ -11,7 +11,7 @@ use Rattle.hexfloat.specs.Answer.{Answer, gives, stops}
 use Rattle.machine.specs.declared.verdict.Effect.{Effect}
 use Rattle.machine.specs.Run.{repeated}
 use Rattle.machine.specs.Step.{outcome, onward}
-use Rattle.machine.proofs.Answers.{StopsBy}
+use Rattle.hexfloat.proofs.Answers.{StopsBy}
 use Rattle.machine.proofs.Refusals.{StepNumber}
 use Rattle.conditions.specs.Trail.{Call, step, run, back, Entry, Trail, trail, extended, judgedLast, enteredLast, heldAt, dropped, stepTraced, traced, standing, replies, stepsSaid, backsSaid}
 use Rattle.conditions.proofs.Repeats.{judged-by, repeatedLast, run-repeats}

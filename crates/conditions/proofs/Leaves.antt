@@ -13,7 +13,7 @@ use Rattle.machine.specs.Back.{returning, backedBy, backed}
 use Rattle.machine.specs.Machine.{Machine, committed}
 use Rattle.machine.specs.Run.{repeated, entryOf, ran}
 use Rattle.machine.specs.Step.{Outcome, outcome, counted, onward, verdictOf, stepped}
-use Rattle.machine.proofs.Answers.{StopsBy}
+use Rattle.hexfloat.proofs.Answers.{StopsBy}
 use Rattle.machine.proofs.Refusals.{StepNumber, decided-by}
 use Rattle.machine.proofs.Runs.{entry-stops}
 use Rattle.conditions.specs.Trail.{step, called, Reply, replyOf, standing, replies}

@@ -20,7 +20,7 @@ use Rattle.machine.specs.Machine.{Machine, committed}
 use Rattle.machine.specs.Run.{ran}
 use Rattle.machine.specs.Status.{conditionFormed, unpacked}
 use Rattle.machine.specs.Step.{Outcome, outcome, onward, verdictOf, stepped}
-use Rattle.machine.proofs.Answers.{StopsBy, provided-by, checked-by, mapped-by, then-by, cond-by}
+use Rattle.hexfloat.proofs.Answers.{StopsBy, provided-by, checked-by, mapped-by, then-by, cond-by}
 use Rattle.machine.proofs.Checks.{held-number}
 use Rattle.machine.proofs.Refusals.{StepNumber, decided-by}
 use Rattle.machine.proofs.Returning.{returning-gives}

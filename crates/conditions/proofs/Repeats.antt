@@ -8,7 +8,7 @@ use Rattle.hexfloat.specs.Answer.{Answer, gives, stops}
 use Rattle.machine.specs.declared.verdict.Effect.{Effect}
 use Rattle.machine.specs.Run.{repeated}
 use Rattle.machine.specs.Step.{Outcome, outcome, onward}
-use Rattle.machine.proofs.Answers.{StopsBy}
+use Rattle.hexfloat.proofs.Answers.{StopsBy}
 use Rattle.machine.proofs.Refusals.{StepNumber, decided-by}
 use Rattle.conditions.specs.Trail.{Trail, extended, judgedLast, goOn, stepTraced, runTraced}
 

@@ -8,13 +8,12 @@ use lib.ListN.{length, getD}
 use native.Mathlib.Nat.{add-zero}
 use native.Mathlib.Omega.{arith}
 use borrow.Author.Tests.{eqb-true, eqb-false}
-use Rattle.hexfloat.specs.Answer.{Answer, gives, stops}
+use Rattle.hexfloat.specs.Answer.{Answer, gives, stops, provided, checked}
 use Rattle.machine.specs.declared.verdict.Effect.{Effect}
 use Rattle.machine.specs.Back.{returning, backed}
 use Rattle.machine.specs.Decide.{entryStop, decided}
 use Rattle.machine.specs.Machine.{Machine, machine, committed}
 use Rattle.machine.specs.Run.{repeated, admitted, ran}
-use Rattle.machine.specs.Says.{provided, checked}
 use Rattle.machine.specs.Step.{Outcome, outcome, onward, verdictOf, stepped}
 use Rattle.conditions.specs.Trail.{Call, step, run, back, Entry, entry, Trail, trail, extended, judgedLast, heldAt, dropped, stepTraced, traced, called, standing, replies, Behind, Covered, AllCovered}
 use Rattle.conditions.specs.Theorems.{Typed, wholeOf, startOf, machineAfter, trailAfter, stepsAfter, Included, AsTrail}

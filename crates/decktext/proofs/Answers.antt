@@ -7,9 +7,8 @@ use mathlib.Core.List.{List, [], _∷_}
 use native.Mathlib.Omega.{arith}
 use lib.Dec.{leb, eqb}
 use lib.ListN.{length}
-use Rattle.hexfloat.specs.Answer.{Answer, gives, stops}
-use Rattle.machine.specs.Says.{provided, andThen}
-use Rattle.machine.proofs.Answers.{gives-inj, never}
+use Rattle.hexfloat.specs.Answer.{Answer, gives, stops, provided, andThen}
+use Rattle.hexfloat.proofs.Answers.{gives-inj, never}
 use Rattle.decktext.specs.Text.{same}
 use Rattle.decktext.specs.Value.{all, isDigit, isHexadecimal, plain, numberFrom, codeAmong, mnemonicCode, decimalOf, protectOf, wordOf, mnemonics}
 

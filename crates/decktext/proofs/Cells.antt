@@ -5,8 +5,8 @@ use mathlib.Core.List.{List}
 use native.Mathlib.Omega.{arith}
 use lib.ListN.{length, getD, set, length-set}
 use lib.Seq.{getD-set-same, getD-set-other}
-use Rattle.machine.specs.declared.order.Order.{Order}
-use Rattle.machine.specs.Order.{orderAt}
+use Rattle.orders.specs.declared.order.Order.{Order}
+use Rattle.orders.specs.Order.{orderAt}
 use Rattle.decktext.specs.Read.{withCells}
 
 -- the cells before an order's four

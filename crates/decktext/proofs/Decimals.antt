@@ -8,8 +8,7 @@ use native.Mathlib.Omega.{arith}
 use lib.ListN.{length, getD}
 use lib.Dec.{eqb, leb}
 use borrow.Author.Tests.{eq-eqb, eqb-false, leb-true, le-leb, lt-leb, ne-eqb}
-use Rattle.hexfloat.specs.Answer.{gives, stops}
-use Rattle.machine.specs.Says.{provided}
+use Rattle.hexfloat.specs.Answer.{gives, stops, provided}
 use Rattle.decktext.specs.Value.{all, isDigit, isHexadecimal, digitOf, numberFrom, plain, decimalOf, wordOf}
 use Rattle.decktext.specs.Walk.{digitIn, numberIn}
 use Rattle.decktext.proofs.Digits.{decimal-digit, hexadecimal-digit, all-same, word-below}

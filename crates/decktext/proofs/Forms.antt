@@ -8,11 +8,10 @@ use lib.Dec.{eqb, leb, ltb}
 use lib.ListN.{length, take}
 use lib.Seq.{take-all, getD-take}
 use borrow.Author.Tests.{eqb-true, eqb-false, leb-true, ltb-true}
-use Rattle.hexfloat.specs.Answer.{Answer, gives, stops}
-use Rattle.machine.specs.declared.order.Order.{Order}
-use Rattle.machine.specs.Order.{legalOf}
-use Rattle.machine.specs.Says.{provided, andThen}
-use Rattle.machine.proofs.Answers.{gives-inj, never, provided-gives}
+use Rattle.hexfloat.specs.Answer.{Answer, gives, stops, provided, andThen}
+use Rattle.orders.specs.declared.order.Order.{Order}
+use Rattle.orders.specs.Order.{legalOf}
+use Rattle.hexfloat.proofs.Answers.{gives-inj, never, provided-gives}
 use Rattle.decktext.specs.declared.fault.Fault.{Fault}
 use Rattle.decktext.specs.declared.given.Given.{Given as GivenLine}
 use Rattle.decktext.specs.declared.line.Judged.{Judged}

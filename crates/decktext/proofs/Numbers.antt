@@ -8,10 +8,9 @@ use native.Mathlib.Omega.{arith}
 use lib.Dec.{leb, ltb}
 use lib.ListN.{length}
 use borrow.Author.Tests.{ltb-true, ltb-false}
-use Rattle.hexfloat.specs.Answer.{gives}
-use Rattle.machine.specs.declared.order.Order.{Order}
-use Rattle.machine.specs.Says.{provided, andThen}
-use Rattle.machine.proofs.Answers.{gives-inj, provided-gives}
+use Rattle.hexfloat.specs.Answer.{gives, provided, andThen}
+use Rattle.orders.specs.declared.order.Order.{Order}
+use Rattle.hexfloat.proofs.Answers.{gives-inj, provided-gives}
 use Rattle.decktext.specs.Text.{Line, ended, unended, linesOf, same}
 use Rattle.decktext.specs.Format.{deckHeading, storageHeading, orderOf, halfwordOf}
 use Rattle.decktext.specs.Read.{Buffers, refused, taken, outcome, Wanted, heading, order, storage, halfword, Progress, start, Given, headed, ordered, parted, stored, orderFits, halfwordFits, lineAs, lineRead, progressed, Read, whole, faulty, linesRead, concludedWith, readText}

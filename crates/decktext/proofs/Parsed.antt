@@ -9,9 +9,8 @@ use lib.Dec.{eqb}
 use lib.ListN.{length, take, set, length-set}
 use lib.Seq.{append-snoc, take-suc-set}
 use borrow.Author.Tests.{eqb-true, eqb-false}
-use Rattle.hexfloat.specs.Answer.{Answer, gives, stops}
-use Rattle.machine.specs.Says.{andThen}
-use Rattle.machine.proofs.Answers.{never}
+use Rattle.hexfloat.specs.Answer.{Answer, gives, stops, andThen}
+use Rattle.hexfloat.proofs.Answers.{never}
 use Rattle.decktext.specs.Text.{valuesOf}
 use Rattle.decktext.specs.Walk.{Stretch}
 use Rattle.decktext.proofs.Answers.{Is16, Only16, only-refused, only-and-then, and-then-gives}

@@ -6,7 +6,7 @@ use native.Mathlib.Omega.{arith}
 use lib.ListN.{length, getD, length-set}
 use lib.Seq.{getD-set-other}
 use Rattle.hexfloat.specs.Answer.{Answer, gives, stops}
-use Rattle.machine.specs.Order.{orderAt}
+use Rattle.orders.specs.Order.{orderAt}
 use Rattle.decktext.specs.Text.{Line, ended, unended}
 use Rattle.decktext.specs.Read.{Wanted, heading, order, storage, halfword, Progress, Given, headed, ordered, parted, stored, lineRead, bufferedWith, progressed, Read, whole, faulty, endRead, readOn, linesRead}
 use Rattle.decktext.specs.Theorems.{Through, Faulty}

@@ -7,8 +7,8 @@ use native.Mathlib.Omega.{arith}
 use borrow.Author.Count.{below-more}
 use lib.ListN.{length, getD, set, length-set}
 use lib.Seq.{getD-set-same, getD-set-other}
-use Rattle.machine.specs.declared.order.Order.{Order}
-use Rattle.machine.specs.Order.{orderAt}
+use Rattle.orders.specs.declared.order.Order.{Order}
+use Rattle.orders.specs.Order.{orderAt}
 use Rattle.decktext.specs.Format.{Halfword}
 use Rattle.decktext.specs.Read.{Buffers, Given, headed, ordered, parted, stored, withCells, bufferedWith}
 use Rattle.decktext.specs.Walk.{Storable}

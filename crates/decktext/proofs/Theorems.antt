@@ -6,7 +6,7 @@ use native.Mathlib.Omega.{arith}
 use lib.ListN.{length, getD}
 use lib.Seq.{getD-set-same}
 use Rattle.hexfloat.specs.Answer.{gives}
-use Rattle.machine.specs.Order.{orderAt}
+use Rattle.orders.specs.Order.{orderAt}
 use Rattle.decktext.specs.Text.{Line, ended, linesOf}
 use Rattle.decktext.specs.Read.{Buffers, refused, taken, Outcome, Progress, start, Given, ordered, stored, order, lineRead, bufferedWith, progressed, Read, whole, faulty, concludedWith, linesRead, readText}
 use Rattle.decktext.specs.Theorems.{Through, FirstFault, Written, Reader}

@@ -6,10 +6,9 @@ use mathlib.Core.List.{List, [], _∷_}
 use native.Mathlib.Omega.{arith}
 use lib.Dec.{eqb, leb}
 use lib.ListN.{length}
-use Rattle.hexfloat.specs.Answer.{Answer, gives, stops}
-use Rattle.machine.specs.declared.order.Order.{Order}
-use Rattle.machine.specs.Says.{andThen}
-use Rattle.machine.proofs.Answers.{gives-inj, never, provided-gives}
+use Rattle.hexfloat.specs.Answer.{Answer, gives, stops, andThen}
+use Rattle.orders.specs.declared.order.Order.{Order}
+use Rattle.hexfloat.proofs.Answers.{gives-inj, never, provided-gives}
 use Rattle.decktext.specs.Text.{same, prefixed, valuesOf}
 use Rattle.decktext.specs.Value.{codeAmong, mnemonicCode, decimalOf, protectOf, wordOf}
 use Rattle.decktext.specs.Format.{legal, orderFrom, orderOf, Halfword, halfwordFrom, halfwordOf}

@@ -2,11 +2,10 @@
 use Prim.Native.Nat.{ℕ}
 use mathlib.Core.List.{List, [], _∷_}
 use mathlib.Core.Bool.{Bool, true, false}
-use Rattle.hexfloat.specs.Answer.{Answer, gives, stops}
-use Rattle.machine.specs.declared.order.Order.{Order}
-use Rattle.machine.specs.declared.order.Operation.{Operation}
-use Rattle.machine.specs.Order.{legalOf}
-use Rattle.machine.specs.Says.{provided, andThen}
+use Rattle.hexfloat.specs.Answer.{Answer, gives, stops, provided, andThen}
+use Rattle.orders.specs.declared.order.Order.{Order}
+use Rattle.orders.specs.declared.order.Operation.{Operation}
+use Rattle.orders.specs.Order.{legalOf}
 use Rattle.decktext.specs.Text.{valuesOf}
 use Rattle.decktext.specs.Value.{mnemonicCode, decimalOf, protectOf, wordOf}
 

@@ -4,9 +4,8 @@ use mathlib.Core.List.{List, [], _∷_}
 use mathlib.Core.Bool.{cond}
 use lib.ListN.{length, set}
 use lib.Dec.{leb, ltb}
-use Rattle.hexfloat.specs.Answer.{Answer, gives, stops}
-use Rattle.machine.specs.declared.order.Order.{Order}
-use Rattle.machine.specs.Says.{provided, andThen}
+use Rattle.hexfloat.specs.Answer.{Answer, gives, stops, provided, andThen}
+use Rattle.orders.specs.declared.order.Order.{Order}
 use Rattle.decktext.specs.declared.deck.Reading.{Reading}
 use Rattle.decktext.specs.declared.fault.Fault.{Fault}
 use Rattle.decktext.specs.Fault.{faultNumber}

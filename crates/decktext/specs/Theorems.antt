@@ -4,8 +4,8 @@ use mathlib.Core.Path.{_≡_}
 use mathlib.Core.List.{List, [], _∷_, _++_}
 use lib.ListN.{length, getD}
 use Rattle.hexfloat.specs.Answer.{gives, stops}
-use Rattle.machine.specs.declared.order.Order.{Order}
-use Rattle.machine.specs.Order.{orderAt}
+use Rattle.orders.specs.declared.order.Order.{Order}
+use Rattle.orders.specs.Order.{orderAt}
 use Rattle.decktext.specs.Text.{Line, ended, unended, linesOf}
 use Rattle.decktext.specs.Format.{Halfword}
 use Rattle.decktext.specs.Read.{Buffers, Said, refused, taken, Wanted, heading, order, storage, halfword, Progress, start, Given, ordered, stored, lineRead, progressed, readText}

@@ -4,8 +4,7 @@ use mathlib.Core.List.{List, [], _∷_}
 use mathlib.Core.Bool.{Bool, true, false, cond, not, _&&_, _||_}
 use lib.ListN.{length}
 use lib.Dec.{eqb, leb}
-use Rattle.hexfloat.specs.Answer.{Answer, gives, stops}
-use Rattle.machine.specs.Says.{provided}
+use Rattle.hexfloat.specs.Answer.{Answer, gives, stops, provided}
 use Rattle.decktext.specs.declared.fault.Fault.{Fault}
 use Rattle.decktext.specs.declared.value.Value.{Value}
 use Rattle.decktext.specs.Fault.{faultNumber}

@@ -5,9 +5,8 @@ use mathlib.Core.List.{List, []}
 use mathlib.Core.Bool.{Bool, true, false, cond, _&&_}
 use lib.ListN.{length, getD}
 use lib.Dec.{eqb, leb, ltb}
-use Rattle.hexfloat.specs.Answer.{Answer, gives, stops}
-use Rattle.machine.specs.declared.order.Order.{Order}
-use Rattle.machine.specs.Says.{provided, andThen}
+use Rattle.hexfloat.specs.Answer.{Answer, gives, stops, provided, andThen}
+use Rattle.orders.specs.declared.order.Order.{Order}
 use Rattle.decktext.specs.declared.deck.Found.{Found}
 use Rattle.decktext.specs.declared.fault.Fault.{Fault}
 use Rattle.decktext.specs.declared.given.Given.{Given as GivenLine}

@@ -1,5 +1,5 @@
 // What a line gives, staged until the whole text is known to be good.
-use machine::Order;
+use orders::Order;
 ghost use mathlib.Core.Path.{_≡_};
 ghost use Prim.Native.Nat.{_+_, _*_, _≤_};
 ghost use lib.ListN.{length};

@@ -7,13 +7,12 @@ use crate::value::Value;
 use crate::value::decimal;
 use crate::value::protect;
 use crate::value::word;
-use machine::Legality;
-use machine::Order;
+use orders::Legality;
+use orders::Order;
 ghost use mathlib.Core.Path.{_≡_};
 ghost use mathlib.Core.Bool.{cond};
 ghost use Prim.Native.Nat.{_<_};
-ghost use Rattle.hexfloat.specs.Answer.{gives};
-ghost use Rattle.machine.specs.Says.{provided, andThen};
+ghost use Rattle.hexfloat.specs.Answer.{gives, provided, andThen};
 ghost use Rattle.decktext.specs.Text.{same};
 ghost use lib.Dec.{eqb};
 ghost use Rattle.decktext.specs.Value.{saysValue, mnemonicCode, decimalOf, protectOf, wordOf};
@@ -170,7 +169,7 @@ fn judge_order(p: Progress, o: Order, s: Sizes) -> Judged
     requires { ⌜ p .count < 65536 ⌝ }
     ensures { λ r. ⌜ ((b : Buffers) → Sized b s → saysJudged r ≡ andThen (legal o) (orderFits (progressOf p b))) ⌝ }
 {
-    let checked = machine::legal(o);
+    let checked = orders::legal(o);
     let Legality::Legal(_) = checked else {
         return Judged::Malformed;
     };

@@ -1,4 +1,5 @@
 -- The laws that the crate's proofs share, and its theorems.
+pub mod Answers
 pub mod Compared
 pub mod Conditions
 pub mod Converted

@@ -15,7 +15,7 @@ use Rattle.machine.specs.Journal.{written}
 use Rattle.machine.specs.Machine.{Machine, machine, committed}
 use Rattle.machine.specs.Run.{repeated, admitted, entryOf, ran}
 use Rattle.machine.specs.Step.{Outcome, onward, verdictOf}
-use Rattle.machine.proofs.Answers.{StopsBy}
+use Rattle.hexfloat.proofs.Answers.{StopsBy}
 use Rattle.machine.proofs.Decided.{decided-taken}
 use Rattle.machine.proofs.Refusals.{StepNumber, decided-by}
 use Rattle.decktext.specs.Read.{Buffers}

@@ -8,8 +8,8 @@ use lib.ListN.{length}
 use native.Mathlib.Omega.{arith}
 use borrow.Author.Tests.{ltb-true, not-true}
 use Rattle.hexfloat.specs.Answer.{gives}
-use Rattle.machine.specs.declared.order.Operation.{Operation}
-use Rattle.machine.specs.declared.order.Order.{Order}
+use Rattle.orders.specs.declared.order.Operation.{Operation}
+use Rattle.orders.specs.declared.order.Order.{Order}
 use Rattle.machine.specs.declared.state.Registers.{Registers}
 use Rattle.machine.specs.declared.verdict.Effect.{Effect}
 use Rattle.machine.specs.Address.{addressOf}
@@ -18,9 +18,9 @@ use Rattle.machine.specs.Decide.{entryStop, judged, decided}
 use Rattle.machine.specs.Effect.{effectOf}
 use Rattle.machine.specs.Machine.{Committable}
 use Rattle.machine.specs.Operand.{secondOperand}
-use Rattle.machine.specs.Order.{orderAt, legalOf, spanOf, storedOf, isHalt}
+use Rattle.orders.specs.Order.{legalOf, spanOf, storedOf, isHalt, orderAt}
 use Rattle.machine.specs.Protect.{anyProtected}
-use Rattle.machine.proofs.Answers.{provided-gives, checked-gives, then-gives}
+use Rattle.hexfloat.proofs.Answers.{provided-gives, checked-gives, then-gives}
 use Rattle.machine.proofs.Checks.{Held, held, entered, packable, present-fewer}
 use Rattle.machine.proofs.Effects.{Fine, effect-fine}
 use Rattle.machine.proofs.Rows.{Passed, legal-passed}

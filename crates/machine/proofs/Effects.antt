@@ -14,8 +14,8 @@ use Rattle.hexfloat.specs.Convert.{toFixed}
 use Rattle.hexfloat.specs.Divide.{quotientWords}
 use Rattle.hexfloat.proofs.Conditions.{conditions-set}
 use Rattle.machine.specs.declared.change.Change.{Change}
-use Rattle.machine.specs.declared.order.Order.{Order}
-use Rattle.machine.specs.declared.order.Verb.{Verb}
+use Rattle.orders.specs.declared.order.Order.{Order}
+use Rattle.orders.specs.declared.order.Verb.{Verb}
 use Rattle.machine.specs.declared.state.Registers.{Registers}
 use Rattle.machine.specs.declared.verdict.Effect.{Effect}
 use Rattle.machine.specs.Change.{registered, placed, guarded, floatChange, storageChange}
@@ -23,10 +23,10 @@ use Rattle.machine.specs.Check.{present}
 use Rattle.machine.specs.Effect.{nextEffect, fixedInto, resultInto, performed}
 use Rattle.machine.specs.Jump.{jumped, countedDown}
 use Rattle.machine.specs.Operand.{floatOperand}
-use Rattle.machine.specs.Order.{storedAs, halfwords}
+use Rattle.orders.specs.Order.{storedAs, halfwords}
 use Rattle.machine.specs.Protect.{anyProtected}
 use Rattle.machine.specs.Status.{conditionFormed}
-use Rattle.machine.proofs.Answers.{gives-inj, never, mapped-gives}
+use Rattle.hexfloat.proofs.Answers.{gives-inj, never, mapped-gives}
 use Rattle.machine.proofs.Arithmetic.{formed}
 use Rattle.machine.proofs.Rows.{maskFits}
 

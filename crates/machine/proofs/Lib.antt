@@ -1,4 +1,3 @@
-pub mod Answers
 pub mod Arithmetic
 pub mod Checks
 pub mod Decided

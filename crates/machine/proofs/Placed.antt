@@ -7,7 +7,7 @@ use borrow.Author.Tests.{leb-true}
 use Rattle.hexfloat.specs.declared.word.Width.{Width}
 use Rattle.machine.specs.declared.change.Change.{Change}
 use Rattle.machine.specs.Change.{placed, registered}
-use Rattle.machine.specs.Order.{halfwords}
+use Rattle.orders.specs.Order.{halfwords}
 
 pub placed-two : {ch : Change} {a w n : ℕ} → ch ≡ Change.Two a w → placed ch n ≡ true → a + 2 ≤ n
 unfolding placed

@@ -7,23 +7,22 @@ use lib.ListN.{length}
 use native.Mathlib.Omega.{arith}
 use Rattle.hexfloat.specs.declared.word.Width.{Width}
 use Rattle.hexfloat.specs.declared.word.Words.{Words}
-use Rattle.hexfloat.specs.Answer.{gives, stops}
+use Rattle.hexfloat.specs.Answer.{gives, stops, provided}
 use Rattle.hexfloat.specs.Convert.{toFixed}
 use Rattle.hexfloat.specs.Divide.{quotientWords}
 use Rattle.hexfloat.proofs.Conditions.{stops-numbered}
-use Rattle.machine.specs.declared.order.Operation.{Operation}
-use Rattle.machine.specs.declared.order.Order.{Order}
-use Rattle.machine.specs.declared.order.Verb.{Verb}
+use Rattle.orders.specs.declared.order.Operation.{Operation}
+use Rattle.orders.specs.declared.order.Order.{Order}
+use Rattle.orders.specs.declared.order.Verb.{Verb}
 use Rattle.machine.specs.declared.state.Registers.{Registers}
 use Rattle.machine.specs.Address.{addressOf}
 use Rattle.machine.specs.Check.{present}
 use Rattle.machine.specs.Decide.{entryStop, judged, decided}
 use Rattle.machine.specs.Effect.{fixedInto, resultInto, performed, effectOf}
 use Rattle.machine.specs.Operand.{floatOperand, secondOperand}
-use Rattle.machine.specs.Order.{rowAmong, rows, operationOf, withinLimits, legalOf, spanOf, storedOf, isHalt, orderAt}
+use Rattle.orders.specs.Order.{rowAmong, rows, operationOf, withinLimits, legalOf, spanOf, storedOf, isHalt, orderAt}
 use Rattle.machine.specs.Protect.{anyProtected}
-use Rattle.machine.specs.Says.{provided}
-use Rattle.machine.proofs.Answers.{StopsBy, provided-by, checked-by, mapped-by, then-by, cond-by, numbered-by}
+use Rattle.hexfloat.proofs.Answers.{StopsBy, provided-by, checked-by, mapped-by, then-by, cond-by, numbered-by}
 use Rattle.machine.proofs.Checks.{entry-number}
 
 pub record StepNumber (n : ℕ) : Type 0 where

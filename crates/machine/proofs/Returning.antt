@@ -7,7 +7,7 @@ use lib.Dec.{eqb, leb}
 use lib.ListN.{length}
 use native.Mathlib.Omega.{arith}
 use borrow.Author.Tests.{eqb-true, eqb-false, not-true}
-use Rattle.hexfloat.specs.Answer.{gives, stops}
+use Rattle.hexfloat.specs.Answer.{gives, stops, provided}
 use Rattle.machine.specs.declared.change.Change.{Change}
 use Rattle.machine.specs.declared.journal.Record.{Record}
 use Rattle.machine.specs.declared.state.State.{State}
@@ -16,9 +16,8 @@ use Rattle.machine.specs.Back.{allowed, returning}
 use Rattle.machine.specs.Change.{registered, placed, guarded}
 use Rattle.machine.specs.Decide.{heldStop}
 use Rattle.machine.specs.Journal.{fourWords, recordAt, encodedAs, inRegister, changeFrom, effectFrom, decoded}
-use Rattle.machine.specs.Says.{provided}
 use Rattle.machine.specs.Status.{conditionFormed, unpacked}
-use Rattle.machine.proofs.Answers.{gives-inj, never, provided-gives, checked-gives, mapped-gives, then-gives}
+use Rattle.hexfloat.proofs.Answers.{gives-inj, never, provided-gives, checked-gives, mapped-gives, then-gives}
 
 pub record Returned (p : List ℕ) (s : State) (memory : ℕ) (journal : ℕ) (e : Effect) : Type 0 where
   pub held : heldStop (length p) (s .registers .status) (s .used) memory journal ≡ 0

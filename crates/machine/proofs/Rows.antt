@@ -6,13 +6,12 @@ use mathlib.Core.List.{List, [], _∷_}
 use lib.Dec.{eqb, leb}
 use native.Mathlib.Omega.{arith}
 use borrow.Author.Tests.{leb-true}
-use Rattle.hexfloat.specs.Answer.{gives}
-use Rattle.machine.specs.declared.order.Operation.{Operation}
-use Rattle.machine.specs.declared.order.Order.{Order}
-use Rattle.machine.specs.declared.order.Verb.{Verb}
-use Rattle.machine.specs.Order.{rows, rowAmong, operationOf, withinLimits, legalOf, spanOf, storedOf}
-use Rattle.machine.specs.Says.{provided}
-use Rattle.machine.proofs.Answers.{gives-inj, never, provided-gives, then-gives}
+use Rattle.hexfloat.specs.Answer.{gives, provided}
+use Rattle.orders.specs.declared.order.Operation.{Operation}
+use Rattle.orders.specs.declared.order.Order.{Order}
+use Rattle.orders.specs.declared.order.Verb.{Verb}
+use Rattle.orders.specs.Order.{rows, rowAmong, operationOf, withinLimits, legalOf, spanOf, storedOf}
+use Rattle.hexfloat.proofs.Answers.{gives-inj, never, provided-gives, then-gives}
 use Rattle.machine.proofs.Checks.{both}
 
 -- UM alone writes r2 into the mask

@@ -12,7 +12,7 @@ use Rattle.machine.specs.Decide.{decided}
 use Rattle.machine.specs.Machine.{Machine, committed}
 use Rattle.machine.specs.Run.{repeated, stepsOf, entryOf}
 use Rattle.machine.specs.Step.{Outcome, outcome, single, counted, onward, verdictOf, stepped}
-use Rattle.machine.proofs.Answers.{StopsBy}
+use Rattle.hexfloat.proofs.Answers.{StopsBy}
 use Rattle.machine.proofs.Refusals.{StepNumber, decided-by}
 
 -- an outcome with n steps before it

@@ -4,14 +4,13 @@ use mathlib.Core.List.{List}
 use mathlib.Core.Bool.{not}
 use lib.ListN.{length}
 use lib.Dec.{eqb}
-use Rattle.hexfloat.specs.Answer.{Answer, gives, stops}
+use Rattle.hexfloat.specs.Answer.{Answer, gives, stops, provided, checked, andThen}
 use Rattle.machine.specs.declared.state.State.{State}
 use Rattle.machine.specs.declared.verdict.Effect.{Effect}
 use Rattle.machine.specs.Change.{placed, guarded, memoryAfter}
 use Rattle.machine.specs.Decide.{heldStop}
 use Rattle.machine.specs.Journal.{recordAt, decoded}
 use Rattle.machine.specs.Machine.{Machine, machine, stateAfter}
-use Rattle.machine.specs.Says.{provided, checked, andThen}
 use Rattle.machine.specs.Step.{Outcome, outcome}
 
 -- no halfword absent or protected

@@ -5,18 +5,17 @@ use mathlib.Core.List.{List}
 use mathlib.Core.Bool.{cond, not}
 use lib.ListN.{length}
 use lib.Dec.{ltb}
-use Rattle.hexfloat.specs.Answer.{Answer}
-use Rattle.machine.specs.declared.order.Operation.{Operation}
-use Rattle.machine.specs.declared.order.Order.{Order}
+use Rattle.hexfloat.specs.Answer.{Answer, provided, checked, andThen}
+use Rattle.orders.specs.declared.order.Operation.{Operation}
+use Rattle.orders.specs.declared.order.Order.{Order}
 use Rattle.machine.specs.declared.state.Registers.{Registers}
 use Rattle.machine.specs.declared.state.Status.{Status}
 use Rattle.machine.specs.declared.verdict.Effect.{Effect}
 use Rattle.machine.specs.Address.{addressOf}
 use Rattle.machine.specs.Check.{deckSized, buffersSized, stateFormed, present}
 use Rattle.machine.specs.Effect.{effectOf}
-use Rattle.machine.specs.Order.{orderAt, legalOf, spanOf, storedOf, isHalt}
+use Rattle.orders.specs.Order.{legalOf, spanOf, storedOf, isHalt, orderAt}
 use Rattle.machine.specs.Protect.{coverOf, anyProtected}
-use Rattle.machine.specs.Says.{provided, checked, andThen}
 
 -- the first of 2 and 3 that the table gives for these lengths, this status and this used count, or 0
 unfoldable pub heldStop : ℕ → Status → ℕ → ℕ → ℕ → ℕ

@@ -14,9 +14,9 @@ use Rattle.hexfloat.specs.Compare.{comparedWords}
 use Rattle.hexfloat.specs.Convert.{toFixed, toFloat}
 use Rattle.hexfloat.specs.Divide.{quotientWords}
 use Rattle.machine.specs.declared.change.Change.{Change}
-use Rattle.machine.specs.declared.order.Operation.{Operation}
-use Rattle.machine.specs.declared.order.Order.{Order}
-use Rattle.machine.specs.declared.order.Verb.{Verb}
+use Rattle.orders.specs.declared.order.Operation.{Operation}
+use Rattle.orders.specs.declared.order.Order.{Order}
+use Rattle.orders.specs.declared.order.Verb.{Verb}
 use Rattle.machine.specs.declared.state.Registers.{Registers}
 use Rattle.machine.specs.declared.state.Status.{Status}
 use Rattle.machine.specs.declared.verdict.Effect.{Effect}
@@ -25,7 +25,7 @@ use Rattle.machine.specs.Change.{floatChange, storageChange}
 use Rattle.machine.specs.Check.{present}
 use Rattle.machine.specs.Jump.{jumped, countedDown}
 use Rattle.machine.specs.Operand.{generalAt, floatOperand, secondOperand}
-use Rattle.machine.specs.Order.{spanOf}
+use Rattle.orders.specs.Order.{spanOf}
 use Rattle.machine.specs.Status.{status}
 
 -- a change and a condition code; the mask stays, and the pointer moves on by one

@@ -6,14 +6,13 @@ use mathlib.Core.List.{List}
 use mathlib.Core.Bool.{true, cond}
 use lib.ListN.{getD, set}
 use lib.Dec.{eqb, leb}
-use Rattle.hexfloat.specs.Answer.{Answer, gives, stops, mapped}
+use Rattle.hexfloat.specs.Answer.{Answer, gives, stops, mapped, provided}
 use Rattle.machine.specs.declared.change.Change.{Change}
 use Rattle.machine.specs.declared.journal.Record.{Record}
 use Rattle.machine.specs.declared.journal.Decoded.{Decoded}
 use Rattle.machine.specs.declared.verdict.Effect.{Effect}
 use Rattle.machine.specs.declared.state.Status.{Status}
 use Rattle.machine.specs.Change.{registered}
-use Rattle.machine.specs.Says.{provided}
 use Rattle.machine.specs.Status.{conditionFormed, packed, unpacked}
 
 abbrev pub fourWords : ℕ → ℕ → ℕ → ℕ → Record

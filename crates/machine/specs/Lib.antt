@@ -1,6 +1,5 @@
 pub mod Stops
 pub mod Says
-pub mod Order
 pub mod Status
 pub mod Fresh
 pub mod Address

@@ -5,8 +5,8 @@ use lib.ListN.{getD}
 use Rattle.hexfloat.specs.declared.word.Width.{Width}
 use Rattle.hexfloat.specs.declared.word.Words.{Words}
 use Rattle.hexfloat.specs.Word.{shortWords}
-use Rattle.machine.specs.declared.order.Order.{Order}
-use Rattle.machine.specs.declared.order.Place.{Place}
+use Rattle.orders.specs.declared.order.Order.{Order}
+use Rattle.orders.specs.declared.order.Place.{Place}
 use Rattle.machine.specs.Address.{addressOf}
 
 -- a float register among the eight

@@ -1,5 +1,5 @@
 // The address of the storage operand.
-use crate::order::Order;
+use orders::Order;
 ghost use mathlib.Core.Path.{_≡_};
 ghost use Rattle.machine.specs.Address.{addressOf};
 

@@ -1,8 +1,8 @@
 // Operands: registers, pairs and storage.
-use crate::order::Order;
-use crate::order::Place;
 use hexfloat::Width;
 use hexfloat::Words;
+use orders::Order;
+use orders::Place;
 ghost use mathlib.Core.Path.{_≡_};
 ghost use mathlib.Core.Bool.{true};
 ghost use Prim.Native.Nat.{_+_, _≤_};
@@ -10,7 +10,7 @@ ghost use lib.ListN.{length};
 ghost use Rattle.hexfloat.specs.Word.{shortWords};
 ghost use Rattle.machine.specs.Address.{addressOf};
 ghost use Rattle.machine.specs.Operand.{floatAt, floatPair, generalAt, wordAt, longAt, floatOperand, storageOperand, secondOperand};
-ghost use Rattle.machine.specs.Order.{halfwords, spanAs};
+ghost use Rattle.orders.specs.Order.{halfwords, spanAs};
 ghost use Rattle.machine.specs.Check.{present};
 
 pub fn float_at(float: &[u32; 8], r: u32) -> u32

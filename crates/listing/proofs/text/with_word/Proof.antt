@@ -1,7 +1,6 @@
 use mathlib.Core.Path.{_≡_}
-use native.Mathlib.Nat.{div-one}
+use native.Mathlib.Nat.{div-one, mod-lt, zero-lt-suc}
 use Prim.Native.Nat.{_≤_, _-_, _/_, _^_}
-use native.Mathlib.Nat.{mod-lt, zero-lt-suc}
 use native.Mathlib.Omega.{arith}
 use Rattle.listing.specs.Digits.{hexadecimal}
 use Rattle.listing.specs.Text.{Appended}

@@ -5,7 +5,7 @@ use native.Mathlib.Omega.{arith}
 use mathlib.Core.Path.{sym, ap, _∙_}
 use borrow.Author.Needs.{needs}
 use Rattle.machine.specs.Decide.{decided}
-use Rattle.machine.specs.Order.{saysLegality}
+use Rattle.orders.specs.Order.{saysLegality}
 use Rattle.machine.specs.Stops.{numberOf}
 use Rattle.machine.proofs.Checks.{held, entered}
 use Rattle.machine.proofs.Rows.{legal-passed}

@@ -5,7 +5,6 @@ use lib.Seq.{length-take-le}
 use native.Mathlib.Nat.{mul-le-mul}
 use native.Mathlib.Omega.{arith}
 use borrow.Author.Needs.{needs}
-use borrow.Author.Needs.{needs}
 use Rattle.odd.proofs.values.list_in.Statement.{statement}
 use Rattle.odd.proofs.values.list_in.Tie as tie
 

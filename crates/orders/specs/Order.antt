@@ -1,17 +1,16 @@
--- The orders and check 5 (document 01, 'Orders' and row 5 of the causes).
+-- The orders and check 5 (document 01, 'Orders', 'Lent' and row 5 of the causes).
 use Prim.Native.Nat.{ℕ, _+_, _*_}
 use mathlib.Core.List.{List, [], _∷_}
 use mathlib.Core.Bool.{Bool, true, false, cond, _&&_}
 use lib.ListN.{getD}
 use lib.Dec.{eqb, leb}
 use Rattle.hexfloat.specs.declared.word.Width.{Width}
-use Rattle.hexfloat.specs.Answer.{Answer, gives, stops}
-use Rattle.machine.specs.declared.order.Order.{Order}
-use Rattle.machine.specs.declared.order.Operation.{Operation}
-use Rattle.machine.specs.declared.order.Verb.{Verb}
-use Rattle.machine.specs.declared.order.Place.{Place}
-use Rattle.machine.specs.declared.order.Legality.{Legality}
-use Rattle.machine.specs.Says.{provided, andThen}
+use Rattle.hexfloat.specs.Answer.{Answer, gives, stops, provided, andThen}
+use Rattle.orders.specs.declared.order.Order.{Order}
+use Rattle.orders.specs.declared.order.Operation.{Operation}
+use Rattle.orders.specs.declared.order.Verb.{Verb}
+use Rattle.orders.specs.declared.order.Place.{Place}
+use Rattle.orders.specs.declared.order.Legality.{Legality}
 
 -- four cells an order: code, r1, r2, at
 abbrev pub orderAt : List ℕ → ℕ → Order

@@ -1,10 +1,10 @@
--- `machine::order::legal` meets its contract: the limits, one by one.
+-- `orders::order::legal` meets its contract: the limits, one by one.
 -- Assumes nothing.
 use borrow.Author.Tests.{le-leb, lt-leb}
 use borrow.Author.Needs.{needs}
-use Rattle.machine.specs.Order.{legalOf, withinLimits}
-use Rattle.machine.proofs.order.legal.Statement.{statement}
-use Rattle.machine.proofs.order.legal.Tie as tie
+use Rattle.orders.specs.Order.{legalOf, withinLimits}
+use Rattle.orders.proofs.order.legal.Statement.{statement}
+use Rattle.orders.proofs.order.legal.Tie as tie
 
 look-up-requires : tie.Need-look-up-requires
 look-up-requires c κs = search needs

@@ -1,10 +1,10 @@
--- `machine::order::look_up` meets its contract: the codes, one by one.
+-- `orders::order::look_up` meets its contract: the codes, one by one.
 -- Assumes nothing.
 use borrow.Author.Tests.{ne-eqb}
 use borrow.Author.Needs.{needs}
-use Rattle.machine.specs.Order.{operationOf, rowAmong}
-use Rattle.machine.proofs.order.look_up.Statement.{statement}
-use Rattle.machine.proofs.order.look_up.Tie as tie
+use Rattle.orders.specs.Order.{operationOf, rowAmong}
+use Rattle.orders.proofs.order.look_up.Statement.{statement}
+use Rattle.orders.proofs.order.look_up.Tie as tie
 
 on-float-requires : tie.Need-on-float-requires
 on-float-requires c κs = search needs

@@ -1,24 +1,8 @@
 // The orders: document 01's table, and check 5.
 use hexfloat::Width;
 ghost use mathlib.Core.Path.{_≡_};
-ghost use Prim.Native.Nat.{_+_, _*_, _≤_};
-ghost use lib.ListN.{length};
 ghost use Rattle.hexfloat.specs.Answer.{gives};
-ghost use Rattle.machine.specs.Order.{
-  orderAt,
-  row,
-  onFloat,
-  onGeneral,
-  onStorage,
-  onCells,
-  operationOf,
-  legalOf,
-  saysLegality,
-  spanOf,
-  storedOf,
-  halfwords,
-  isHalt,
-};
+ghost use Rattle.orders.specs.Order.{row, onFloat, onGeneral, onStorage, onCells, operationOf, legalOf, saysLegality, spanOf, storedOf, halfwords, isHalt};
 
 // The four cells of an order.
 pub struct Order {
@@ -66,19 +50,6 @@ pub struct Operation {
 pub enum Legality {
     Legal(Operation),
     Illegal,
-}
-
-pub fn order_at(deck: &[u16], p: usize) -> Order
-    requires { ⌜ p * 4 + 4 ≤ length (now deck) ⌝ }
-    ensures { λ r. ⌜ r ≡ orderAt (now (deck .entry)) p ⌝ }
-{
-    let i = p * 4;
-    Order {
-        code: deck[i],
-        r1: deck[i + 1],
-        r2: deck[i + 2],
-        at: deck[i + 3],
-    }
 }
 
 fn row(verb: Verb, width: Width, place: Place, r1: u16, r2: u16, at: u16) -> Legality

@@ -5,9 +5,8 @@ use mathlib.Core.Bool.{Bool, true, false, cond}
 use lib.Dec.{eqb}
 use native.Mathlib.Omega.{arith}
 use borrow.Author.Tests.{eqb-true, eqb-false}
-use Rattle.hexfloat.specs.Answer.{Answer, gives, stops, mapped}
+use Rattle.hexfloat.specs.Answer.{Answer, gives, stops, mapped, provided, checked, andThen}
 use Rattle.hexfloat.specs.Theorems.{Numbered, given, stopped}
-use Rattle.machine.specs.Says.{provided, checked, andThen}
 
 pub gives-inj : {A : Type 0} {x y : A} → gives x ≡ gives y → x ≡ y
 gives-inj h = cc
