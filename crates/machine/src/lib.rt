@@ -1,4 +1,4 @@
-// The machine on the desk: registers, orders, checks, journal; step, run and back step.
+// The machine on the desk: registers, checks, effects, journal; step, run and back step.
 //
 // A step decides first and writes afterwards, so a stop leaves everything as it was. What this file
 // exports takes the state by value and hands it back, has no `requires`, and has one equation with a

@@ -23,7 +23,7 @@ compare-parts-requires c κs = (
 
 returns : tie.Need-returns
 unfolding comparedWords
-returns c = cc
+returns c = rw (c .compare-parts .ensures, c .before .parts-of2 .ensures, c .before .before .parts-of .ensures, c .before .before .before .digits-of .ensures)
 
 pub compare-spec : {M : Type 1} → statement M
 compare-spec =

@@ -15,31 +15,47 @@ rank-requires : tie.Need-rank-requires
 rank-requires c κs = search needs
 
 returns : tie.Need-returns
-returns c = cc (both-positive (c .before .before .before .before .before .before .before .pre .0) (c .before .before .before .before .before .before .before .pre .1) (c .before .before .before .if1 .taken) (c .before .if2 .taken))
+returns c =
+    let keys = c .before .before .before .before .before in
+    rw (c .rank .ensures, keys .magnitude-key2 .ensures, keys .before .magnitude-key .ensures)
+    (both-positive (keys .before .before .pre .0) (keys .before .before .pre .1) (c .before .before .before .if1 .taken) (c .before .if2 .taken))
 
 rank-requires-2 : tie.Need-rank-requires-2
 rank-requires-2 c κs = search needs
 
 returns-2 : tie.Need-returns-2
-returns-2 c = cc (zero-above (c .before .before .before .before .before .before .before .before .pre .0) (c .before .before .before .before .before .before .before .before .pre .1) (c .before .before .before .before .if1 .taken) (c .before .before .if2 .left) (sym (c .before .before .before .before .before .before .before .magnitude-key .ensures) ∙ c .before .if3 .taken))
+returns-2 c =
+    let keys = c .before .before .before .before .before .before in
+    rw (c .rank2 .ensures, keys .magnitude-key2 .ensures)
+    (zero-above (keys .before .before .pre .0) (keys .before .before .pre .1) (c .before .before .before .before .if1 .taken) (c .before .before .if2 .left) (sym (keys .before .magnitude-key .ensures) ∙ c .before .if3 .taken))
 
 returns-3 : tie.Need-returns-3
-returns-3 c = cc (apart-above (c .before .before .before .before .before .before .before .pre .0) (c .before .before .before .before .before .before .before .pre .1) (c .before .before .before .if1 .taken) (c .before .if2 .left) (λ e. c .if3 .left (c .before .before .before .before .before .before .magnitude-key .ensures ∙ e)))
+returns-3 c =
+    let keys = c .before .before .before .before .before in
+    apart-above (keys .before .before .pre .0) (keys .before .before .pre .1) (c .before .before .before .if1 .taken) (c .before .if2 .left) (λ e. c .if3 .left (keys .before .magnitude-key .ensures ∙ e))
 
 rank-requires-3 : tie.Need-rank-requires-3
 rank-requires-3 c κs = search needs
 
 returns-4 : tie.Need-returns-4
-returns-4 c = cc (zero-below (c .before .before .before .before .before .before .before .before .pre .0) (c .before .before .before .before .before .before .before .before .pre .1) (c .before .before .before .before .if1 .left) (c .before .before .if4 .taken) (sym (c .before .before .before .before .before .before .before .magnitude-key .ensures) ∙ c .before .if5 .taken))
+returns-4 c =
+    let keys = c .before .before .before .before .before .before in
+    rw (c .rank3 .ensures, keys .magnitude-key2 .ensures)
+    (zero-below (keys .before .before .pre .0) (keys .before .before .pre .1) (c .before .before .before .before .if1 .left) (c .before .before .if4 .taken) (sym (keys .before .magnitude-key .ensures) ∙ c .before .if5 .taken))
 
 returns-5 : tie.Need-returns-5
-returns-5 c = cc (apart-below (c .before .before .before .before .before .before .before .pre .0) (c .before .before .before .before .before .before .before .pre .1) (c .before .before .before .if1 .left) (c .before .if4 .taken) (λ e. c .if5 .left (c .before .before .before .before .before .before .magnitude-key .ensures ∙ e)))
+returns-5 c =
+    let keys = c .before .before .before .before .before in
+    apart-below (keys .before .before .pre .0) (keys .before .before .pre .1) (c .before .before .before .if1 .left) (c .before .if4 .taken) (λ e. c .if5 .left (keys .before .magnitude-key .ensures ∙ e))
 
 rank-requires-4 : tie.Need-rank-requires-4
 rank-requires-4 c κs = search needs
 
 returns-6 : tie.Need-returns-6
-returns-6 c = cc (both-negative (c .before .before .before .before .before .before .before .pre .0) (c .before .before .before .before .before .before .before .pre .1) (c .before .before .before .if1 .left) (c .before .if4 .left))
+returns-6 c =
+    let keys = c .before .before .before .before .before in
+    rw (c .rank4 .ensures, keys .magnitude-key2 .ensures, keys .before .magnitude-key .ensures)
+    (both-negative (keys .before .before .pre .0) (keys .before .before .pre .1) (c .before .before .before .if1 .left) (c .before .if4 .left))
 
 pub compare-parts-spec : {M : Type 1} → statement M
 compare-parts-spec =

@@ -12,7 +12,7 @@ condition-of-requires c κs = search needs
 
 returns : tie.Need-returns
 unfolding operandCondition
-returns c = cc
+returns c = rw (c .condition-of .ensures, c .before .parts-of .ensures)
 
 pub condition-spec : {M : Type 1} → statement M
 condition-spec = tie.close (tie.spec parts-of-requires condition-of-requires returns)
