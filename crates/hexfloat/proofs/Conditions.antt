@@ -1,18 +1,19 @@
 -- Every condition is 0, 1 or 3, and every stop has its number: each definition chooses among them.
 use mathlib.Core.Path.{_≡_, subst}
 use mathlib.Core.Bool.{Bool, true, false, cond}
-use Prim.Native.Nat.{ℕ, _+_, _*_, _^_}
+use Prim.Native.Nat.{ℕ, _+_, _*_, _^_, _≤_}
 use native.Mathlib.Omega.{arith}
 use lib.Dec.{ltb, leb, eqb}
 use Rattle.hexfloat.specs.declared.word.Coded.{Coded}
 use Rattle.hexfloat.specs.declared.word.Parts.{Parts}
 use Rattle.hexfloat.specs.Answer.{Answer, gives, stops, mapped}
-use Rattle.hexfloat.specs.Word.{digitsOf, partsOf, wordsOf, shortParts, magnitude}
+use Rattle.hexfloat.specs.Word.{digitsOf, partsOf, wordsOf, shortParts, inverted, magnitude}
 use Rattle.hexfloat.specs.Condition.{IsCondition, zero, greater, less, conditionBy, operandCondition, generalCondition}
 use Rattle.hexfloat.specs.Compare.{compared, comparedWords}
 use Rattle.hexfloat.specs.Convert.{toFixed, toFloat, fixedMagnitude}
 use Rattle.hexfloat.specs.Result.{resultOf, underflow}
 use Rattle.hexfloat.specs.Divide.{quotient, quotientWords}
+use Rattle.hexfloat.specs.Add.{sum, difference, resultOfSum, sumWords, differenceWords}
 use Rattle.hexfloat.specs.Theorems.{ConditionsSet, Numbered, given, stopped, StopsNumbered}
 
 by-tests : (equal above : Bool) → IsCondition (conditionBy equal above)
@@ -40,28 +41,35 @@ choice : {A : Type 0} {lo hi : ℕ} (b : Bool) {x y : Answer A} → Numbered lo 
 choice true p q = p
 choice false p q = q
 
-on-mask : (mask : Bool) → Numbered 8 10 (underflow mask)
-on-mask true = stopped {n = 10} (omega arith) (omega arith)
-on-mask false = given
+module _ {lo : ℕ} (h : lo ≤ 9) where
+  on-mask : (mask : Bool) → Numbered lo 10 (underflow mask)
+  on-mask true = stopped {n = 10} (omega arith) (omega arith)
+  on-mask false = given
 
-of-result : (d : ℕ) (mask : Bool) (sign a b : ℕ) → Numbered 8 10 (resultOf d mask sign a b)
-unfolding resultOf
-of-result d mask sign a b =
-    choice (eqb a 0) given
-    (choice (leb (16 ^ 63 * b) a) (stopped (omega arith) (omega arith))
-    (choice (ltb (a * 16 ^ 65) b) (on-mask mask) given))
+  of-result : (d : ℕ) (mask : Bool) (sign a b : ℕ) → Numbered lo 10 (resultOf d mask sign a b)
+  unfolding resultOf
+  of-result d mask sign a b =
+      choice (eqb a 0) given
+      (choice (leb (16 ^ 63 * b) a) (stopped h (omega arith))
+      (choice (ltb (a * 16 ^ 65) b) (on-mask mask) given))
 
 of-quotient : (d : ℕ) (mask : Bool) (x y : Parts) → Numbered 8 10 (quotient d mask x y)
 unfolding quotient
-of-quotient d mask x y = choice (eqb (magnitude d y) 0) (stopped (omega arith) (omega arith)) (of-result d mask _ (magnitude d x) (magnitude d y))
+of-quotient d mask x y = choice (eqb (magnitude d y) 0) (stopped (omega arith) (omega arith)) (of-result (omega arith) d mask _ (magnitude d x) (magnitude d y))
+
+of-sum : (d : ℕ) (mask : Bool) (x y : Parts) → Numbered 9 10 (sum d mask x y)
+unfolding sum resultOfSum
+of-sum d mask x y = of-result (omega arith) d mask _ _ _
 
 numbered-mapped : {A B : Type 0} {lo hi : ℕ} (f : A → B) (r : Answer A) → Numbered lo hi r → Numbered lo hi (mapped f r)
 numbered-mapped f (gives a) given = given
 numbered-mapped f (stops n) (stopped l h) = stopped l h
 
 pub stops-numbered : StopsNumbered
-unfolding toFixed quotientWords
+unfolding toFixed quotientWords sumWords differenceWords difference
 stops-numbered = record {
   fixed = λ w. choice (ltb (fixedMagnitude (shortParts w)) (2 ^ 31 + shortParts w .sign)) given (stopped (omega arith) (omega arith));
   quotient = λ w mask a b. numbered-mapped (wordsOf w) (quotient (digitsOf w) mask (partsOf w a) (partsOf w b)) (of-quotient (digitsOf w) mask (partsOf w a) (partsOf w b));
+  sum = λ w mask a b. numbered-mapped (wordsOf w) (sum (digitsOf w) mask (partsOf w a) (partsOf w b)) (of-sum (digitsOf w) mask (partsOf w a) (partsOf w b));
+  difference = λ w mask a b. numbered-mapped (wordsOf w) (sum (digitsOf w) mask (partsOf w a) (inverted (partsOf w b))) (of-sum (digitsOf w) mask (partsOf w a) (inverted (partsOf w b)));
 }

@@ -1,4 +1,4 @@
--- The starred edges of document 01 hold: each is computed from the definitions.
+-- The edges hold: each is computed from the definitions.
 use mathlib.Core.Path.{refl}
 use Rattle.hexfloat.specs.Normal.{digits, digitsIn, characteristicOf, fractionOf}
 use Rattle.hexfloat.specs.Condition.{conditionBy}
@@ -7,7 +7,10 @@ use Rattle.hexfloat.specs.Convert.{toFixed, toFloat, floatParts, fixedMa
 use Rattle.hexfloat.specs.Divide.{quotientWords, quotient}
 use Rattle.hexfloat.specs.Result.{resultOf}
 use Rattle.hexfloat.specs.Word.{magnitude}
-use Rattle.hexfloat.specs.Edges.{StarredEdges}
+use Rattle.hexfloat.specs.Align.{commonCharacteristic, aligned}
+use Rattle.hexfloat.specs.Signed.{signed}
+use Rattle.hexfloat.specs.Add.{input, intermediateSum, resultOfSum, sum, difference, sumWords, differenceWords}
+use Rattle.hexfloat.specs.Edges.{StarredEdges, SumEdges}
 
 pub starred-edges : StarredEdges
 unfolding toFloat floatParts conditionBy toFixed fixedMagnitude quotientWords quotient resultOf comparedWords compared positive negative magnitude characteristicOf fractionOf digits digitsIn
@@ -24,4 +27,19 @@ starred-edges = record {
   underflow-masked = refl;
   overflow = refl;
   compare-long = refl;
+}
+
+pub sum-edges : SumEdges
+unfolding sumWords differenceWords difference sum input intermediateSum resultOfSum resultOf commonCharacteristic aligned signed characteristicOf fractionOf digits digitsIn
+sum-edges = record {
+  guard-digit = refl;
+  last-kept = refl;
+  first-dropped = refl;
+  no-carry = refl;
+  overflow = refl;
+  unnormalised = refl;
+  zero-fraction = refl;
+  normalised = refl;
+  underflow = refl;
+  underflow-masked = refl;
 }

@@ -2,7 +2,7 @@
 use mathlib.Core.Path.{_≡_, sym, ap, ap₂, _∙_}
 use mathlib.Core.Logic.{_⊎_, inl, inr, ⊎-elim}
 use Prim.Native.Nat.{ℕ, _+_, _-_, _*_, _^_, _<_}
-use native.Mathlib.Nat.{le-refl, le-of-lt, le-add-right, not-le-of-lt, add-lt-add-of-le-of-lt, suc-mul, le-trans, le-of-eq, lt-of-lt-of-le, lt-of-le-of-lt, eq-zero-or-pos, eq-of-mul-eq-mul-right, lt-of-mul-lt-mul-right, mul-lt-mul-of-pos-right, mul-le-mul-left, mul-le-mul-right, mul-assoc, zero-mul, pow-succ'}
+use native.Mathlib.Nat.{le-refl, le-of-lt, le-add-right, not-le-of-lt, add-lt-add-of-le-of-lt, suc-mul, le-trans, le-of-eq, lt-of-lt-of-le, lt-of-le-of-lt, eq-zero-or-pos, eq-of-mul-eq-mul-right, lt-of-mul-lt-mul-right, mul-lt-mul-of-pos-right, mul-le-mul-left, mul-le-mul-right, mul-assoc, pow-succ'}
 use native.Mathlib.Omega.{arith}
 use borrow.Author.Tests.{lt-ltb, le-ltb, eq-eqb, ne-eqb}
 use Rattle.hexfloat.specs.declared.word.Parts.{Parts}
@@ -11,7 +11,7 @@ use Rattle.hexfloat.specs.Condition.{conditionBy}
 use Rattle.hexfloat.specs.Compare.{rankCondition}
 use Rattle.hexfloat.specs.Operand.{Operand, normalised, magnitudeKey}
 use Rattle.hexfloat.proofs.Digits.{pos, mono}
-use Rattle.hexfloat.proofs.Normalised.{normal-most, normal-least, normal-exact, magnitude-positive}
+use Rattle.hexfloat.proofs.Normalised.{normal-most, normal-least, normal-exact, magnitude-positive, magnitude-zero}
 
 pub data Trichotomy (a b : ℕ) : Type 0 where
   less : a < b → Trichotomy a b
@@ -68,17 +68,13 @@ module _ {d : ℕ} {p : Parts} (o : Operand d p) where
   key-positive : 0 < p .fraction → 0 < magnitudeKey d p
   key-positive h = rw (key-some h) (omega (arith, normal-least o h, pos d))
 
-  pub zero-is-zero : p .fraction ≡ 0 → magnitude d p ≡ 0
-  unfolding magnitude
-  zero-is-zero e = ap (λ (x : ℕ). x * 16 ^ (p .characteristic + (14 - d))) e ∙ zero-mul (16 ^ (p .characteristic + (14 - d)))
-
   -- a key below 2^56 times the place, at 14 digits
   fraction-small : normalised d p .fraction < 2 ^ 56
   fraction-small = lt-of-lt-of-le (normal-most o) (mono {j = 14} (o .most))
 
   -- a key is zero where the magnitude is
   pub zero-key : magnitudeKey d p ≡ 0 → magnitude d p ≡ 0
-  zero-key e = ⊎-elim zero-is-zero (λ h. let no : ⊥ = omega (arith, key-positive h) in absurd no) (eq-zero-or-pos (p .fraction))
+  zero-key e = ⊎-elim (magnitude-zero d p) (λ h. let no : ⊥ = omega (arith, key-positive h) in absurd no) (eq-zero-or-pos (p .fraction))
 
   pub some-key : (magnitudeKey d p ≡ 0 → ⊥) → 0 < magnitude d p
   some-key ne = ⊎-elim (λ e. absurd (ne (key-zero e))) (magnitude-positive o) (eq-zero-or-pos (p .fraction))
@@ -110,13 +106,13 @@ module _ {d : ℕ} {x y : Parts} (ox : Operand d x) (oy : Operand d y) where
           (lt-of-le-of-lt (le-of-eq (sym (key-some ox hx))) (lt-of-lt-of-le l (le-of-eq (key-some oy hy))))))
 
       some : 0 < y .fraction → magnitude d x < magnitude d y
-      some hy = ⊎-elim (λ e. lt-of-le-of-lt (le-of-eq (zero-is-zero ox e)) (magnitude-positive oy hy)) (both hy) (eq-zero-or-pos (x .fraction))
+      some hy = ⊎-elim (λ e. lt-of-le-of-lt (le-of-eq (magnitude-zero d x e)) (magnitude-positive oy hy)) (both hy) (eq-zero-or-pos (x .fraction))
 
   pub key-same : magnitudeKey d x ≡ magnitudeKey d y → magnitude d x ≡ magnitude d y
   key-same e = ⊎-elim none some (eq-zero-or-pos (x .fraction))
     where
       none : x .fraction ≡ 0 → magnitude d x ≡ magnitude d y
-      none f = zero-is-zero ox f ∙ sym (zero-key oy (sym e ∙ key-zero ox f))
+      none f = magnitude-zero d x f ∙ sym (zero-key oy (sym e ∙ key-zero ox f))
 
       both : 0 < x .fraction → 0 < y .fraction → magnitude d x ≡ magnitude d y
       both hx hy =

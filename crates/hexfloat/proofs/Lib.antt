@@ -1,4 +1,6 @@
 -- The laws that the crate's proofs share, and its theorems.
+pub mod Added
+pub mod Aligned
 pub mod Answers
 pub mod Compared
 pub mod Conditions
@@ -12,5 +14,8 @@ pub mod Normalised
 pub mod Placed
 pub mod Ratio
 pub mod Results
+pub mod Scaled
+pub mod Signs
+pub mod Sums
 pub mod Theorems
 pub mod Turns

@@ -1,7 +1,7 @@
 -- Laws of a fraction of d digits moved left by its leading zero digits.
 use mathlib.Core.Path.{_≡_, sym, ap, _∙_}
 use Prim.Native.Nat.{ℕ, _+_, _-_, _*_, _/_, _^_, _≤_, _<_}
-use native.Mathlib.Nat.{le-trans, le-of-eq, lt-of-lt-of-le, mul-lt-mul-of-pos-right, mul-le-mul-right, mul-assoc, mul-right-comm, mul-pos}
+use native.Mathlib.Nat.{le-trans, le-of-eq, lt-of-lt-of-le, mul-lt-mul-of-pos-right, mul-le-mul-right, mul-assoc, mul-right-comm, mul-pos, zero-mul}
 use native.Mathlib.Omega.{arith}
 use lib.Pow.{pow-add}
 use lib.Count.{leadingZeros}
@@ -55,3 +55,7 @@ module _ {d : ℕ} {p : Parts} (o : Operand d p) where
   pub magnitude-positive : 0 < p .fraction → 0 < magnitude d p
   unfolding magnitude
   magnitude-positive h = mul-pos h (pos (p .characteristic + (14 - d)))
+
+pub magnitude-zero : (d : ℕ) (p : Parts) → p .fraction ≡ 0 → magnitude d p ≡ 0
+unfolding magnitude
+magnitude-zero d p e = ap (λ (x : ℕ). x * 16 ^ (p .characteristic + (14 - d))) e ∙ zero-mul (16 ^ (p .characteristic + (14 - d)))

@@ -39,7 +39,7 @@ module _ {d a x f : ℕ} (s : ℕ) (some : 0 < s) where
   }
 
 -- a power taken out
-parted : (f i j k : ℕ) → i + j ≡ k → f * 16 ^ k ≡ f * 16 ^ i * 16 ^ j
+pub parted : (f i j k : ℕ) → i + j ≡ k → f * 16 ^ k ≡ f * 16 ^ i * 16 ^ j
 parted f i j k h = ap (λ (z : ℕ). f * z) (ap (λ (z : ℕ). 16 ^ z) (sym h) ∙ pow-add 16 i j) ∙ sym (mul-assoc f (16 ^ i) (16 ^ j))
 
 -- The ratio of two numbers in normalised form: a * 16^d is f * 16^p and b * 16^d is g * 16^q, with fractions f and g of d digits, and `lead` is 1 where
@@ -80,6 +80,11 @@ module _ (d a b f p g q lead : ℕ) (ea : a * 16 ^ d ≡ f * 16 ^ p) (eb : b * 1
   placed =
       let r = shrunk (16 ^ d) (pos d) (subst₂ (λ (x y : ℕ). Bounded d x y cut) left right (grown (16 ^ (p + q)) (pos (p + q)) of-fractions)) in
       record { characteristic = record { least = r .least; most = r .most }; fraction = record { least = r .cut-least; most = r .cut-most } }
+
+-- the same places and fraction in other words
+pub same-place : {d a b up down f up′ down′ f′ : ℕ} → up ≡ up′ → down ≡ down′ → f ≡ f′ → IsPlaced d a b up down f → IsPlaced d a b up′ down′ f′
+same-place {d} {a} {b} {up} {down} {f} {up′} {down′} {f′} eu ed ef r =
+    subst₂ (λ (u v : ℕ). IsPlaced d a b u v f′) eu ed (subst (λ (x : ℕ). IsPlaced d a b up down x) ef r)
 
 module _ {d a b up down f : ℕ} (r : IsPlaced d a b up down f) where
   module _ (h : down ≤ up) where

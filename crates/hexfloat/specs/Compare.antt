@@ -1,11 +1,11 @@
 -- Compares by exact value (8.11, 8.12; document 01, 'Orders').
 use Prim.Native.Nat.{ℕ, _+_}
-use mathlib.Core.Bool.{cond}
 use lib.Dec.{ltb, eqb}
 use Rattle.hexfloat.specs.declared.word.Parts.{Parts}
 use Rattle.hexfloat.specs.declared.word.Width.{Width}
 use Rattle.hexfloat.specs.declared.word.Words.{Words}
 use Rattle.hexfloat.specs.Condition.{conditionBy}
+use Rattle.hexfloat.specs.Signed.{above, below}
 use Rattle.hexfloat.specs.Word.{digitsOf, partsOf, magnitude}
 
 -- x against y
@@ -14,10 +14,10 @@ rankCondition x y = conditionBy (eqb x y) (ltb y x)
 
 -- the part of a number's value that stands above zero, and the part below it
 unfoldable pub positive : ℕ → Parts → ℕ
-positive d p = cond (eqb (p .sign) 0) (magnitude d p) 0
+positive d p = above (p .sign) (magnitude d p)
 
 unfoldable pub negative : ℕ → Parts → ℕ
-negative d p = cond (eqb (p .sign) 0) 0 (magnitude d p)
+negative d p = below (p .sign) (magnitude d p)
 
 -- x against y by exact signed value, with the negative parts brought over so that all numbers are whole
 unfoldable pub compared : ℕ → Parts → Parts → ℕ

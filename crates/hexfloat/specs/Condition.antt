@@ -1,11 +1,11 @@
 -- Condition codes: 0, 1 and 3 are the manual's 00, 01 and 11 (8.7). In this crate a condition is such a code.
-use Prim.Native.Nat.{ℕ, _^_, _-_}
+use Prim.Native.Nat.{ℕ, _^_}
 use mathlib.Core.Bool.{Bool, cond}
 use lib.Dec.{ltb, eqb}
 use Rattle.hexfloat.specs.declared.word.Parts.{Parts}
 use Rattle.hexfloat.specs.declared.word.Width.{Width}
 use Rattle.hexfloat.specs.declared.word.Words.{Words}
-use Rattle.hexfloat.specs.Word.{shortParts, partsOf, shortWord}
+use Rattle.hexfloat.specs.Word.{shortParts, partsOf, shortWord, inverted}
 
 -- 8.7: the conditions that are set; state 10 never is
 pub data IsCondition : ℕ → Type 0 where
@@ -36,4 +36,4 @@ generalCondition w = signedCondition (2 ^ 31) w
 unfoldable pub complement : ℕ → ℕ
 complement w =
     let p = shortParts w in
-    cond (eqb (p .fraction) 0) 0 (shortWord (record { sign = 1 - p .sign; characteristic = p .characteristic; fraction = p .fraction }))
+    cond (eqb (p .fraction) 0) 0 (shortWord (inverted p))

@@ -2,19 +2,23 @@
 use mathlib.Core.Path.{_≡_}
 use mathlib.Core.Bool.{Bool}
 use mathlib.Core.Logic.{_⊎_}
-use Prim.Native.Nat.{ℕ, suc, _+_, _*_, _/_, _%_, _^_, _≤_, _<_}
+use Prim.Native.Nat.{ℕ, suc, _+_, _-_, _*_, _/_, _%_, _^_, _≤_, _<_}
+use Rattle.hexfloat.specs.declared.signed.Signed.{Signed}
 use Rattle.hexfloat.specs.declared.word.Coded.{Coded}
 use Rattle.hexfloat.specs.declared.word.Parts.{Parts}
 use Rattle.hexfloat.specs.declared.word.Width.{Width}
 use Rattle.hexfloat.specs.declared.word.Words.{Words}
 use Rattle.hexfloat.specs.Answer.{Answer, gives, stops}
-use Rattle.hexfloat.specs.Word.{trueZero, magnitude}
+use Rattle.hexfloat.specs.Word.{trueZero, magnitude, shortWords}
 use Rattle.hexfloat.specs.Condition.{IsCondition, operandCondition, generalCondition}
-use Rattle.hexfloat.specs.Compare.{comparedWords}
+use Rattle.hexfloat.specs.Compare.{positive, negative, comparedWords}
 use Rattle.hexfloat.specs.Normal.{IsCharacteristic, IsFraction, IsBelowZero}
 use Rattle.hexfloat.specs.Convert.{fixedMagnitude, wordMagnitude, floatParts, toFixed, toFloat}
 use Rattle.hexfloat.specs.Result.{resultOf, underflow}
 use Rattle.hexfloat.specs.Divide.{quotient, quotientWords}
+use Rattle.hexfloat.specs.Align.{commonCharacteristic, aligned, IsAligned}
+use Rattle.hexfloat.specs.Signed.{signed}
+use Rattle.hexfloat.specs.Add.{input, intermediateSum, sum, difference, sumWords, differenceWords}
 
 -- For whole numbers a and b above 0 there is one characteristic of a / b, 0 or more or below 0, and to it one fraction of d digits.
 pub record OneNumber (d a b : ℕ) : Type 0 where
@@ -37,6 +41,48 @@ pub record ExactResult (d : ℕ) (mask : Bool) (sign a b : ℕ) : Type 0 where
 pub record ExactQuotient (d : ℕ) (mask : Bool) (x y : Parts) : Type 0 where
   pub zero-divisor : magnitude d y ≡ 0 → quotient d mask x y ≡ stops 8
   pub ratio : 0 < magnitude d y → quotient d mask x y ≡ resultOf d mask ((x .sign + y .sign) % 2) (magnitude d x) (magnitude d y)
+
+-- An aligned fraction is the exact magnitude cut toward zero to d + g digits at the characteristic c, and no other number is.
+pub record ExactAlignment (d g c : ℕ) (p : Parts) : Type 0 where
+  pub is : IsAligned d g c p (aligned g c p)
+  pub only : (f : ℕ) → IsAligned d g c p f → aligned g c p ≡ f
+
+-- The intermediate sum s at the characteristic c is the exact ratio of s * 16^c and 16^(65 + d): it is normalised and cut, overflows and underflows as
+-- any result does, and has one characteristic and one fraction.
+pub record ExactIntermediate (d : ℕ) (mask : Bool) (c : ℕ) (s : Signed) : Type 0 where
+  pub result : ExactResult d mask (s .sign) (s .magnitude * 16 ^ c) (16 ^ (65 + d))
+  pub number : 0 < s .magnitude → OneNumber d (s .magnitude * 16 ^ c) (16 ^ (65 + d))
+
+-- the digits that fall past the guard digit where x and y are aligned are zeros
+pub record DropsZeros (x y : Parts) : Type 0 where
+  pub first : x .fraction * 16 % 16 ^ (commonCharacteristic x y - x .characteristic) ≡ 0
+  pub second : y .fraction * 16 % 16 ^ (commonCharacteristic x y - y .characteristic) ≡ 0
+
+-- the exact sum of the values of two numbers of d digits
+abbrev pub exactSum : ℕ → Parts → Parts → Signed
+exactSum d x y = signed (positive d x + positive d y) (negative d x + negative d y)
+
+-- The sum of two numbers of d digits: both inputs aligned, and the result of their intermediate sum; where aligning drops nothing but zeros, the exact
+-- sum of the values, normalised and cut toward zero.
+pub record ExactSum (d : ℕ) (mask : Bool) (x y : Parts) : Type 0 where
+  pub first : ExactAlignment d 1 (commonCharacteristic (input x) (input y)) (input x)
+  pub second : ExactAlignment d 1 (commonCharacteristic (input x) (input y)) (input y)
+  pub intermediate : sum d mask x y
+      ≡ resultOf d mask (intermediateSum (input x) (input y) .sign) (intermediateSum (input x) (input y) .magnitude * 16 ^ commonCharacteristic (input x) (input y)) (16 ^ (65 + d))
+  pub exact : d ≤ 14 → DropsZeros (input x) (input y) → sum d mask x y ≡ resultOf d mask (exactSum d x y .sign) (exactSum d x y .magnitude) (16 ^ 78)
+
+-- 8.9: the operands may be interchanged. 8.26, 8.27: a number less itself is true zero, unnormalised too. 8.3: an operand with a zero fraction may be
+-- replaced by true zero.
+pub record SumLaws (d : ℕ) (mask : Bool) (x y : Parts) : Type 0 where
+  pub interchanged : sum d mask x y ≡ sum d mask y x
+  pub less-itself : difference d mask x x ≡ gives trueZero
+  pub zero-second : y .fraction ≡ 0 → sum d mask x y ≡ sum d mask x trueZero
+  pub zero-subtracted : y .fraction ≡ 0 → difference d mask x y ≡ sum d mask x trueZero
+
+-- the same of words, short and long
+pub record WordLaws (w : Width) (mask : Bool) (a b : Words) : Type 0 where
+  pub interchanged : sumWords w mask a b ≡ sumWords w mask b a
+  pub less-itself : differenceWords w mask a a ≡ gives (shortWords 0)
 
 -- CVFX: the magnitude is the exact value times 65,536 cut toward zero, and no other number is.
 pub record ExactFixed (p : Parts) : Type 0 where
@@ -65,7 +111,9 @@ pub data Numbered {A : Type 0} (lo hi : ℕ) : Answer A → Type 0 where
   given : {a : A} → Numbered lo hi (gives a)
   stopped : {n : ℕ} → lo ≤ n → n ≤ hi → Numbered lo hi (stops n)
 
--- Arithmetic stops by 8 to 11 alone: the divides by 8, 9 and 10, CVFX by 11.
+-- Arithmetic stops by 8 to 11 alone: the divides by 8, 9 and 10, sums and differences by 9 and 10, CVFX by 11.
 pub record StopsNumbered : Type 0 where
   pub fixed : (w : ℕ) → Numbered 11 11 (toFixed w)
   pub quotient : (w : Width) (mask : Bool) (a b : Words) → Numbered 8 10 (quotientWords w mask a b)
+  pub sum : (w : Width) (mask : Bool) (a b : Words) → Numbered 9 10 (sumWords w mask a b)
+  pub difference : (w : Width) (mask : Bool) (a b : Words) → Numbered 9 10 (differenceWords w mask a b)

@@ -38,6 +38,10 @@ abbrev pub wordsOf : Width → Parts → Words
 wordsOf Short p = shortWords (shortWord p)
 wordsOf Long p = longWord p
 
+-- 8.19, 8.26: the sign inverted
+abbrev pub inverted : Parts → Parts
+inverted p = record { sign = 1 - p .sign; characteristic = p .characteristic; fraction = p .fraction }
+
 -- 8.2: true zero has all bits 0
 abbrev pub trueZero : Parts
 trueZero = record { sign = 0; characteristic = 0; fraction = 0 }

@@ -3,14 +3,18 @@
 // What is public takes words of any content and has no `requires`; the functions behind it, which the
 // modules offer each other alone, may have one. What each means is a definition of specs/, which
 // speaks of exact values as whole numbers.
+mod addition;
 mod comparison;
 mod condition_code;
 mod convert;
 mod division;
 mod normal;
 mod result;
+mod signed;
 mod word;
 
+pub use addition::add;
+pub use addition::subtract;
 pub use comparison::compare;
 pub use condition_code::complement;
 pub use condition_code::condition;

@@ -13,8 +13,7 @@ use Rattle.hexfloat.specs.Divide.{quotient, quotientWords}
 use Rattle.hexfloat.specs.Operand.{Operand, IsPlaced}
 use Rattle.hexfloat.proofs.Divided.{Ready, dividend-bounds, divisor-bounds, lead-few, ratio-placed, in-words}
 use Rattle.hexfloat.proofs.Fits.{parts-fit, width-fits, no-bits, fraction-most}
-use Rattle.hexfloat.proofs.Keys.{zero-is-zero}
-use Rattle.hexfloat.proofs.Normalised.{magnitude-positive}
+use Rattle.hexfloat.proofs.Normalised.{magnitude-positive, magnitude-zero}
 use Rattle.hexfloat.proofs.Results.{by-zero, by-some, of-zero}
 use Rattle.hexfloat.proofs.division.divide.Statement.{statement}
 use Rattle.hexfloat.proofs.division.divide.Tie as tie
@@ -80,7 +79,7 @@ parts-of-requires-2 c κs = search needs
 
 returns : tie.Need-returns
 returns c =
-    ap (mapped (wordsOf (w (c .before .before)))) (sym (by-zero _ _ _ _ (zero-is-zero (fits-y (c .before .before)) (c .if1 .taken))))
+    ap (mapped (wordsOf (w (c .before .before)))) (sym (by-zero _ _ _ _ (magnitude-zero _ (y (c .before .before)) (c .if1 .taken))))
     ∙ said (c .before .before)
 
 returns-2 : tie.Need-returns-2
@@ -88,7 +87,7 @@ returns-2 c =
     let s = c .before .before .before .before in
     ap gives (sym (no-bits (w s)))
     ∙ ap (mapped (wordsOf (w s)))
-    (sym (by-some _ (mask s) (x s) (y s) (magnitude-positive (fits-y s) (pos-of-ne-zero (c .before .before .if1 .left))) ∙ of-zero _ _ _ _ _ (zero-is-zero (fits-x s) (c .if2 .taken))))
+    (sym (by-some _ (mask s) (x s) (y s) (magnitude-positive (fits-y s) (pos-of-ne-zero (c .before .before .if1 .left))) ∙ of-zero _ _ _ _ _ (magnitude-zero _ (x s) (c .if2 .taken))))
     ∙ said s
 
 digits-of-requires : tie.Need-digits-of-requires

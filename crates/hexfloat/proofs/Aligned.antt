@@ -1,0 +1,91 @@
+-- Laws of alignment: an aligned fraction is the exact magnitude cut to the digits that are kept, over the guard digits and the digits d.
+use mathlib.Core.Path.{_≡_, sym, ap, _∙_}
+use Prim.Native.Nat.{ℕ, suc, _+_, _-_, _*_, _/_, _%_, _^_, _≤_, _<_}
+use native.Mathlib.Nat.{le-trans, le-of-eq, lt-of-lt-of-le, lt-of-le-of-lt, mul-le-mul-right, mul-lt-mul-of-pos-right, mul-assoc, mul-right-comm, div-eq-of-lt, div-le-self, div-add-mod'}
+use native.Mathlib.Omega.{arith}
+use borrow.Author.Tests.{lt-ltb, le-ltb}
+use lib.Pow.{pow-add}
+use Rattle.hexfloat.specs.declared.word.Parts.{Parts}
+use Rattle.hexfloat.specs.Align.{commonCharacteristic, aligned, IsAligned}
+use Rattle.hexfloat.specs.Word.{magnitude}
+use Rattle.hexfloat.proofs.Digits.{pos}
+use Rattle.hexfloat.proofs.Keys.{Trichotomy, less, same, more, trichotomy}
+use Rattle.hexfloat.proofs.Ratio.{cut-is, cut-unique}
+
+-- the common characteristic is one of the two, and no smaller than the other
+module _ (x y : Parts) where
+  pub common-left : x .characteristic ≤ commonCharacteristic x y
+  unfolding commonCharacteristic
+  common-left = go (trichotomy (x .characteristic) (y .characteristic))
+    where
+      go : Trichotomy (x .characteristic) (y .characteristic) → x .characteristic ≤ commonCharacteristic x y
+      go (less h) = rw (lt-ltb (x .characteristic) (y .characteristic) h) (omega arith)
+      go (same e) = rw (le-ltb (x .characteristic) (y .characteristic) (omega arith)) (omega arith)
+      go (more h) = rw (le-ltb (x .characteristic) (y .characteristic) (omega arith)) (omega arith)
+
+  pub common-swapped : commonCharacteristic x y ≡ commonCharacteristic y x
+  unfolding commonCharacteristic
+  common-swapped = go (trichotomy (x .characteristic) (y .characteristic))
+    where
+      go : Trichotomy (x .characteristic) (y .characteristic) → commonCharacteristic x y ≡ commonCharacteristic y x
+      go (less h) = rw (lt-ltb (x .characteristic) (y .characteristic) h, le-ltb (y .characteristic) (x .characteristic) (omega arith))
+      go (same e) = rw (le-ltb (x .characteristic) (y .characteristic) (omega arith), le-ltb (y .characteristic) (x .characteristic) (omega arith)) e
+      go (more h) = rw (le-ltb (x .characteristic) (y .characteristic) (omega arith), lt-ltb (y .characteristic) (x .characteristic) h)
+
+pub common-right : (x y : Parts) → y .characteristic ≤ commonCharacteristic x y
+common-right x y = rw (common-swapped x y) (common-left y x)
+
+pub common-most : {k : ℕ} (x y : Parts) → x .characteristic ≤ k → y .characteristic ≤ k → commonCharacteristic x y ≤ k
+unfolding commonCharacteristic
+common-most {k} x y hx hy = go (trichotomy (x .characteristic) (y .characteristic))
+  where
+    go : Trichotomy (x .characteristic) (y .characteristic) → commonCharacteristic x y ≤ k
+    go (less h) = rw (lt-ltb (x .characteristic) (y .characteristic) h) hy
+    go (same e) = rw (le-ltb (x .characteristic) (y .characteristic) (omega arith)) hx
+    go (more h) = rw (le-ltb (x .characteristic) (y .characteristic) (omega arith)) hx
+
+module _ (g c : ℕ) (p : Parts) where
+  -- all digits are moved out
+  pub aligned-gone : p .fraction * 16 ^ g < 16 ^ (c - p .characteristic) → aligned g c p ≡ 0
+  unfolding aligned
+  aligned-gone h = div-eq-of-lt h
+
+  pub aligned-most : (d : ℕ) → p .fraction < 16 ^ d → aligned g c p < 16 ^ (d + g)
+  unfolding aligned
+  aligned-most d h =
+      lt-of-le-of-lt (div-le-self (p .fraction * 16 ^ g) (16 ^ (c - p .characteristic)))
+      (lt-of-lt-of-le (mul-lt-mul-of-pos-right h (pos g)) (le-of-eq (sym (pow-add 16 d g))))
+
+  module _ (d : ℕ) (h : p .characteristic ≤ c) where
+    -- a unit of the last digit kept, in units of the fraction with its guard digits
+    unit : (f : ℕ) → f * 16 ^ (c + (14 - d)) ≡ f * 16 ^ (c - p .characteristic) * 16 ^ (p .characteristic + (14 - d))
+    unit f =
+        ap (λ (z : ℕ). f * z) (ap (λ (z : ℕ). 16 ^ z) (omega arith) ∙ pow-add 16 (c - p .characteristic) (p .characteristic + (14 - d)))
+        ∙ sym (mul-assoc f (16 ^ (c - p .characteristic)) (16 ^ (p .characteristic + (14 - d))))
+
+    whole : magnitude d p * 16 ^ g ≡ p .fraction * 16 ^ g * 16 ^ (p .characteristic + (14 - d))
+    unfolding magnitude
+    whole = mul-right-comm (p .fraction) (16 ^ (p .characteristic + (14 - d))) (16 ^ g)
+
+    pub aligned-is : IsAligned d g c p (aligned g c p)
+    unfolding aligned
+    aligned-is =
+        let r = cut-is (p .fraction * 16 ^ g) (16 ^ (c - p .characteristic)) (pos (c - p .characteristic)) in
+        record {
+          least = le-trans (le-of-eq (unit (aligned g c p))) (le-trans (mul-le-mul-right (16 ^ (p .characteristic + (14 - d))) (r .0)) (le-of-eq (sym whole)));
+          most = lt-of-le-of-lt (le-of-eq whole) (lt-of-lt-of-le (mul-lt-mul-of-pos-right (r .1) (pos (p .characteristic + (14 - d)))) (le-of-eq (sym (unit (suc (aligned g c p))))));
+        }
+
+    -- where only zeros are dropped, the magnitude is kept
+    pub aligned-kept : p .fraction * 16 ^ g % 16 ^ (c - p .characteristic) ≡ 0 → aligned g c p * 16 ^ (c + (14 - d)) ≡ magnitude d p * 16 ^ g
+    unfolding aligned
+    aligned-kept e = unit (aligned g c p) ∙ ap (λ (x : ℕ). x * 16 ^ (p .characteristic + (14 - d))) exact ∙ sym whole
+      where
+        exact : p .fraction * 16 ^ g / 16 ^ (c - p .characteristic) * 16 ^ (c - p .characteristic) ≡ p .fraction * 16 ^ g
+        exact = omega (arith, e, div-add-mod' (p .fraction * 16 ^ g) (16 ^ (c - p .characteristic)))
+
+-- no other number has the bounds of an aligned fraction
+pub aligned-unique : {d g c f f′ : ℕ} {p : Parts} → IsAligned d g c p f → IsAligned d g c p f′ → f ≡ f′
+aligned-unique {d} {g} {c} {f} {f′} {p} r s =
+    sym (cut-unique (magnitude d p * 16 ^ g) (16 ^ (c + (14 - d))) f (r .least) (r .most))
+    ∙ cut-unique (magnitude d p * 16 ^ g) (16 ^ (c + (14 - d))) f′ (s .least) (s .most)

@@ -1,0 +1,48 @@
+-- Sums and differences (8.9, 8.10, 8.26, 8.27).
+use Prim.Native.Nat.{ℕ, _+_, _*_, _^_}
+use mathlib.Core.Bool.{Bool, cond}
+use lib.Dec.{eqb}
+use Rattle.hexfloat.specs.declared.signed.Signed.{Signed}
+use Rattle.hexfloat.specs.declared.word.Parts.{Parts}
+use Rattle.hexfloat.specs.declared.word.Width.{Width}
+use Rattle.hexfloat.specs.declared.word.Words.{Words}
+use Rattle.hexfloat.specs.Align.{commonCharacteristic, aligned}
+use Rattle.hexfloat.specs.Answer.{Answer, mapped}
+use Rattle.hexfloat.specs.Result.{resultOf}
+use Rattle.hexfloat.specs.Signed.{above, below, signed}
+use Rattle.hexfloat.specs.Word.{digitsOf, partsOf, wordsOf, inverted, trueZero}
+
+-- 8.3: an input with a zero fraction is treated as a true zero, whatever its sign and characteristic
+unfoldable pub input : Parts → Parts
+input p = cond (eqb (p .fraction) 0) trueZero p
+
+-- 8.10: the intermediate sum has one guard digit (8.9: 15 digits for 14), and a possible carry. It is the sum of the aligned fractions by their signs.
+unfoldable pub intermediateSum : Parts → Parts → Signed
+intermediateSum x y =
+    let c = commonCharacteristic x y in
+    let u = aligned 1 c x in
+    let v = aligned 1 c y in
+    signed (above (x .sign) u + above (y .sign) v) (below (x .sign) u + below (y .sign) v)
+
+-- an intermediate sum of d + 1 digits at characteristic c is s / 16^(d + 1) * 16^(c - 64), that is the ratio of s * 16^c and 16^(65 + d)
+unfoldable pub resultOfSum : ℕ → Bool → ℕ → Signed → Answer Parts
+resultOfSum d mask c s = resultOf d mask (s .sign) (s .magnitude * 16 ^ c) (16 ^ (65 + d))
+
+abbrev pub sumOfInputs : ℕ → Bool → Parts → Parts → Answer Parts
+sumOfInputs d mask x y = resultOfSum d mask (commonCharacteristic x y) (intermediateSum x y)
+
+-- The sum of two numbers of d digits.
+unfoldable pub sum : ℕ → Bool → Parts → Parts → Answer Parts
+sum d mask x y = sumOfInputs d mask (input x) (input y)
+
+-- 8.26, 8.27: the sign of the second operand is inverted before addition
+unfoldable pub difference : ℕ → Bool → Parts → Parts → Answer Parts
+difference d mask x y = sum d mask x (inverted y)
+
+-- 8.10 short, 8.9 long
+unfoldable pub sumWords : Width → Bool → Words → Words → Answer Words
+sumWords w mask a b = mapped (wordsOf w) (sum (digitsOf w) mask (partsOf w a) (partsOf w b))
+
+-- 8.27 short, 8.26 long
+unfoldable pub differenceWords : Width → Bool → Words → Words → Answer Words
+differenceWords w mask a b = mapped (wordsOf w) (difference (digitsOf w) mask (partsOf w a) (partsOf w b))

@@ -1,0 +1,119 @@
+// Sums and differences (8.9, 8.10, 8.26, 8.27).
+//
+// Both fractions get a guard digit, and the one of the smaller characteristic is moved right. Their
+// signed sum, with its carry, fits a u64; its leading zero digits give the normalised fraction,
+// which is then cut.
+use crate::result::Result;
+use crate::signed::Signed;
+use crate::word::Parts;
+use crate::word::Width;
+use crate::word::Words;
+ghost use mathlib.Core.Path.{_≡_};
+ghost use Prim.Native.Nat.{_+_, _*_, _<_, _≤_, _^_};
+ghost use Rattle.hexfloat.specs.Add.{input, resultOfSum, sum, sumWords, differenceWords};
+ghost use Rattle.hexfloat.specs.Align.{aligned, commonCharacteristic};
+ghost use Rattle.hexfloat.specs.Answer.{mapped};
+ghost use Rattle.hexfloat.specs.Operand.{Operand};
+ghost use Rattle.hexfloat.specs.Result.{saysResult};
+ghost use Rattle.hexfloat.specs.Word.{digitsOf, wordsOf, inverted};
+
+const GUARD_DIGITS: u32 = 1;
+
+pub fn add(width: Width, mask: bool, a: Words, b: Words) -> Result
+    ensures { λ r. ⌜ saysResult r ≡ sumWords width mask a b ⌝ }
+{
+    let x = crate::word::parts_of(width, a);
+    let y = crate::word::parts_of(width, b);
+    add_parts(width, mask, x, y)
+}
+
+pub fn subtract(width: Width, mask: bool, a: Words, b: Words) -> Result
+    ensures { λ r. ⌜ saysResult r ≡ differenceWords width mask a b ⌝ }
+{
+    let x = crate::word::parts_of(width, a);
+    let y = crate::word::parts_of(width, b);
+    add_parts(width, mask, x, invert(y))
+}
+
+fn invert(p: Parts) -> Parts
+    requires { ⌜ p .sign ≤ 1 ⌝ }
+    ensures { λ r. ⌜ r ≡ inverted p ⌝ }
+{
+    Parts {
+        sign: 1 - p.sign,
+        characteristic: p.characteristic,
+        fraction: p.fraction,
+    }
+}
+
+fn add_parts(width: Width, mask: bool, a: Parts, b: Parts) -> Result
+    requires { ⌜ Operand (digitsOf width) a ⌝ }
+    requires { ⌜ Operand (digitsOf width) b ⌝ }
+    ensures { λ r. ⌜ saysResult r ≡ mapped (wordsOf width) (sum (digitsOf width) mask a b) ⌝ }
+{
+    let x = as_input(a);
+    let y = as_input(b);
+    let c = common_characteristic(x, y);
+    let s = crate::signed::signed_sum(x.sign, align(c, x), y.sign, align(c, y));
+    normalise_sum(width, mask, c, s)
+}
+
+// A zero fraction counts as true zero.
+fn as_input(p: Parts) -> Parts
+    ensures { λ r. ⌜ r ≡ input p ⌝ }
+{
+    if p.fraction == 0 {
+        return Parts {
+            sign: 0,
+            characteristic: 0,
+            fraction: 0,
+        };
+    }
+    p
+}
+
+fn common_characteristic(x: Parts, y: Parts) -> u32
+    ensures { λ r. ⌜ r ≡ commonCharacteristic x y ⌝ }
+{
+    if x.characteristic < y.characteristic {
+        y.characteristic
+    } else {
+        x.characteristic
+    }
+}
+
+// The fraction with its guard digit, moved right to the characteristic c. What is moved by 16 digits
+// or more is gone.
+fn align(c: u32, p: Parts) -> u64
+    requires { ⌜ (p .characteristic ≤ c) × (p .fraction < 16 ^ 14) ⌝ }
+    ensures { λ r. ⌜ r ≡ aligned 1 c p ⌝ }
+{
+    let shift = c - p.characteristic;
+    if 15 < shift {
+        return 0;
+    }
+    (p.fraction << (4 * GUARD_DIGITS)) >> (4 * shift)
+}
+
+// An intermediate sum at the characteristic c, with at most one digit of carry.
+fn normalise_sum(width: Width, mask: bool, c: u32, s: Signed) -> Result
+    requires { ⌜ (c ≤ 127) × (s .sign ≤ 1) × (s .magnitude < 16 ^ 16) ⌝ }
+    ensures { λ r. ⌜ saysResult r ≡ mapped (wordsOf width) (resultOfSum (digitsOf width) mask c s) ⌝ }
+{
+    let sign = s.sign;
+    let m = s.magnitude;
+    if m == 0 {
+        return Result::Number(Words { high: 0, low: 0 });
+    }
+    let d = crate::word::digits_of(width);
+    let zeros = u64::leading_zeros(m) / 4;
+    let fraction = (m << (4 * zeros)) >> (4 * (16 - d));
+    crate::result::limited(
+        width,
+        mask,
+        sign,
+        c + 16 - zeros,
+        d + GUARD_DIGITS,
+        fraction,
+    )
+}
