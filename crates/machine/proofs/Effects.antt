@@ -9,7 +9,8 @@ use native.Mathlib.Omega.{arith}
 use borrow.Author.Tests.{le-leb, leb-true}
 use Rattle.hexfloat.specs.declared.word.Width.{Width}
 use Rattle.hexfloat.specs.declared.word.Words.{Words}
-use Rattle.hexfloat.specs.Answer.{gives}
+use Rattle.hexfloat.specs.Add.{sumWords, differenceWords}
+use Rattle.hexfloat.specs.Answer.{Answer, gives, mapped}
 use Rattle.hexfloat.specs.Convert.{toFixed}
 use Rattle.hexfloat.specs.Divide.{quotientWords}
 use Rattle.hexfloat.proofs.Conditions.{conditions-set}
@@ -20,7 +21,7 @@ use Rattle.machine.specs.declared.state.Registers.{Registers}
 use Rattle.machine.specs.declared.verdict.Effect.{Effect}
 use Rattle.machine.specs.Change.{registered, placed, guarded, floatChange, storageChange}
 use Rattle.machine.specs.Check.{present}
-use Rattle.machine.specs.Effect.{nextEffect, fixedInto, resultInto, performed}
+use Rattle.machine.specs.Effect.{nextEffect, loaded, fixedInto, resultInto, performed}
 use Rattle.machine.specs.Jump.{jumped, countedDown}
 use Rattle.machine.specs.Operand.{floatOperand}
 use Rattle.orders.specs.Order.{storedAs, halfwords}
@@ -61,6 +62,12 @@ module _ (p : List ℕ) (n a k : ℕ) where
         cases : (u : Width) → Fine p n (nextEffect (g .status) (floatChange u (o .r1) b) c)
         cases Width.Short = record { registers = le-leb (o .r1) 7 (s .first); there = refl; free = refl; condition = h; mask = s .mask }
         cases Width.Long = record { registers = le-leb (o .r1) 7 (s .first); there = refl; free = refl; condition = h; mask = s .mask }
+
+    -- a result that sets the condition code
+    sum-fine : (r : Answer Words) (e : Effect) → mapped (loaded w (g .status) (o .r1)) r ≡ gives e → Fine p n e
+    sum-fine r e h =
+        let q = mapped-gives (loaded w (g .status) (o .r1)) r h in
+        subst (λ (y : Effect). Fine p n y) (q .2) (float-fine (q .0) _ (formed (conditions-set .operand w (q .0))))
 
     -- of one register
     one-fine : (x c : ℕ) → conditionFormed c ≡ true → Fine p n (nextEffect (g .status) (Change.Float (o .r1) x) c)
@@ -104,3 +111,5 @@ module _ (p : List ℕ) (n a k : ℕ) where
   effect-fine Verb.CountDown w o g b e s h =
       fine-is h (record { registers = le-leb (o .r1) 7 (s .first); there = refl; free = refl; condition = s .condition; mask = s .mask })
   effect-fine Verb.Halt w o g b e s h = never h
+  effect-fine Verb.Add w o g b e s h = sum-fine Verb.Add w o g s (sumWords w (eqb (g .status .mask) 1) (floatOperand w (g .float) (o .r1)) b) e h
+  effect-fine Verb.Subtract w o g b e s h = sum-fine Verb.Subtract w o g s (differenceWords w (eqb (g .status .mask) 1) (floatOperand w (g .float) (o .r1)) b) e h

@@ -7,18 +7,19 @@ use lib.ListN.{length}
 use native.Mathlib.Omega.{arith}
 use Rattle.hexfloat.specs.declared.word.Width.{Width}
 use Rattle.hexfloat.specs.declared.word.Words.{Words}
-use Rattle.hexfloat.specs.Answer.{gives, stops, provided}
+use Rattle.hexfloat.specs.Answer.{Answer, gives, stops, mapped, provided}
 use Rattle.hexfloat.specs.Convert.{toFixed}
-use Rattle.hexfloat.specs.Divide.{quotientWords}
+use Rattle.hexfloat.specs.Theorems.{Numbered}
 use Rattle.hexfloat.proofs.Conditions.{stops-numbered}
 use Rattle.orders.specs.declared.order.Operation.{Operation}
 use Rattle.orders.specs.declared.order.Order.{Order}
 use Rattle.orders.specs.declared.order.Verb.{Verb}
 use Rattle.machine.specs.declared.state.Registers.{Registers}
+use Rattle.machine.specs.declared.verdict.Effect.{Effect}
 use Rattle.machine.specs.Address.{addressOf}
 use Rattle.machine.specs.Check.{present}
 use Rattle.machine.specs.Decide.{entryStop, judged, decided}
-use Rattle.machine.specs.Effect.{fixedInto, resultInto, performed, effectOf}
+use Rattle.machine.specs.Effect.{loaded, fixedInto, resultInto, performed, effectOf}
 use Rattle.machine.specs.Operand.{floatOperand, secondOperand}
 use Rattle.orders.specs.Order.{rowAmong, rows, operationOf, withinLimits, legalOf, spanOf, storedOf, isHalt, orderAt}
 use Rattle.machine.specs.Protect.{anyProtected}
@@ -36,6 +37,10 @@ module _ (k : ℕ) (some : 1 ≤ k) (most : k ≤ 13) where
 numbered : {lo hi : ℕ} → 1 ≤ lo → hi ≤ 13 → (n : ℕ) → lo ≤ n → n ≤ hi → StepNumber n
 numbered a b n l u = record { some = omega arith; most = omega arith }
 
+-- a result of arithmetic, put into registers
+result-by : (lo : ℕ) → 1 ≤ lo → (f : Words → Effect) {r : Answer Words} → Numbered lo 10 r → StopsBy StepNumber (mapped f r)
+result-by lo some f {r} h = mapped-by StepNumber f r (numbered-by StepNumber (numbered some (omega arith)) h)
+
 performed-by : (v : Verb) (w : Width) (o : Order) (g : Registers) (a : ℕ) (b : Words) → StopsBy StepNumber (performed v w o g a b)
 unfolding performed
 performed-by Verb.Load w o g a b = tt
@@ -44,10 +49,7 @@ performed-by Verb.Compare w o g a b = tt
 performed-by Verb.Fix w o g a b =
     mapped-by StepNumber (fixedInto (g .status) (o .r1)) (toFixed (b .high)) (numbered-by StepNumber (numbered (omega arith) (omega arith)) (stops-numbered .fixed (b .high)))
 performed-by Verb.Float w o g a b = tt
-performed-by Verb.Divide w o g a b =
-    let mask = eqb (g .status .mask) 1 in
-    mapped-by StepNumber (resultInto w (g .status) (o .r1)) (quotientWords w mask (floatOperand w (g .float) (o .r1)) b)
-    (numbered-by StepNumber (numbered (omega arith) (omega arith)) (stops-numbered .quotient w mask (floatOperand w (g .float) (o .r1)) b))
+performed-by Verb.Divide w o g a b = result-by 8 (omega arith) (resultInto w (g .status) (o .r1)) (stops-numbered .quotient w (eqb (g .status .mask) 1) (floatOperand w (g .float) (o .r1)) b)
 performed-by Verb.Store w o g a b = tt
 performed-by Verb.LoadGeneral w o g a b = tt
 performed-by Verb.StoreGeneral w o g a b = tt
@@ -55,6 +57,8 @@ performed-by Verb.SetMask w o g a b = tt
 performed-by Verb.Jump w o g a b = tt
 performed-by Verb.CountDown w o g a b = tt
 performed-by Verb.Halt w o g a b = number 12 (omega arith) (omega arith)
+performed-by Verb.Add w o g a b = result-by 9 (omega arith) (loaded w (g .status) (o .r1)) (stops-numbered .sum w (eqb (g .status .mask) 1) (floatOperand w (g .float) (o .r1)) b)
+performed-by Verb.Subtract w o g a b = result-by 9 (omega arith) (loaded w (g .status) (o .r1)) (stops-numbered .difference w (eqb (g .status .mask) 1) (floatOperand w (g .float) (o .r1)) b)
 
 judged-by : (o : Order) (g : Registers) (used : ℕ) (p m : List ℕ) (journal : ℕ) (op : Operation) → StopsBy StepNumber (judged o g used p m journal op)
 unfolding judged effectOf

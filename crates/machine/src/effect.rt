@@ -25,6 +25,7 @@ ghost use Prim.Native.Nat.{_+_, _<_, _≤_};
 ghost use lib.ListN.{length};
 ghost use Rattle.hexfloat.specs.Answer.{gives, mapped};
 ghost use Rattle.hexfloat.specs.Convert.{toFixed};
+ghost use Rattle.hexfloat.specs.Result.{saysResult};
 ghost use Rattle.machine.specs.Effect.{
   nextEffect,
   loaded,
@@ -32,6 +33,8 @@ ghost use Rattle.machine.specs.Effect.{
   comparedWith,
   fixedInto,
   divided,
+  added,
+  subtracted,
   loadedGeneral,
   masked,
   performed,
@@ -102,6 +105,33 @@ fn divide(width: Width, s: Status, r: u32, a: Words, b: Words) -> Verdict
     }
 }
 
+fn add(width: Width, s: Status, r: u32, a: Words, b: Words) -> Verdict
+    requires { ⌜ s .pointer + 1 < 65536 ⌝ }
+    ensures { λ v. ⌜ says v ≡ added width s r a b ⌝ }
+{
+    load_result(width, s, r, hexfloat::add(width, s.mask == 1, a, b))
+}
+
+fn subtract(width: Width, s: Status, r: u32, a: Words, b: Words) -> Verdict
+    requires { ⌜ s .pointer + 1 < 65536 ⌝ }
+    ensures { λ v. ⌜ says v ≡ subtracted width s r a b ⌝ }
+{
+    load_result(width, s, r, hexfloat::subtract(width, s.mask == 1, a, b))
+}
+
+// A result that sets the condition code.
+fn load_result(width: Width, s: Status, r: u32, result: Result) -> Verdict
+    requires { ⌜ s .pointer + 1 < 65536 ⌝ }
+    ensures { λ v. ⌜ says v ≡ mapped (loaded width s r) (saysResult result) ⌝ }
+{
+    match result {
+        Result::Number(a) => load(width, s, r, a),
+        Result::ZeroDivisor => Verdict::Refused(Stop::ZeroDivisor),
+        Result::Overflow => Verdict::Refused(Stop::Overflow),
+        Result::Underflow => Verdict::Refused(Stop::Underflow),
+    }
+}
+
 fn load_general(s: Status, r: u32, w: u32) -> Verdict
     requires { ⌜ s .pointer + 1 < 65536 ⌝ }
     ensures { λ v. ⌜ says v ≡ gives (loadedGeneral s r w) ⌝ }
@@ -163,6 +193,8 @@ fn perform(
         Verb::Jump => jump(status, r, o.at),
         Verb::CountDown => count_down(status, r, general_at(general, r), o.at),
         Verb::Halt => Verdict::Refused(Stop::Halted),
+        Verb::Add => add(width, status, r, float_operand(width, float, r), b),
+        Verb::Subtract => subtract(width, status, r, float_operand(width, float, r), b),
     }
 }
 

@@ -42,7 +42,8 @@ onStorage v w = row v w Place.Storage 7 0 65535
 abbrev pub onCells : Verb → ℕ → ℕ → ℕ → Operation
 onCells v a b c = row v Width.Short Place.Nowhere a b c
 
--- The table from code 1 on: LER, LE, LED, LECR; CER, CE, CEDR, CED; CVFX, CVFL; DER, DE, DEDR, DED; STE, STED, L, ST; UM, JC, JN, HALT.
+-- The table from code 1 on: LER, LE, LED, LECR; CER, CE, CEDR, CED; CVFX, CVFL; DER, DE, DEDR, DED; STE, STED, L, ST; UM, JC, JN, HALT;
+-- AER, AE, SER, SE; AEDR, AED, SEDR, SED.
 abbrev pub rows : List Operation
 rows =
     onFloat Verb.Load Width.Short
@@ -67,6 +68,14 @@ rows =
     ∷ onCells Verb.Jump 7 0 65535
     ∷ onCells Verb.CountDown 7 0 65535
     ∷ onCells Verb.Halt 0 0 0
+    ∷ onFloat Verb.Add Width.Short
+    ∷ onStorage Verb.Add Width.Short
+    ∷ onFloat Verb.Subtract Width.Short
+    ∷ onStorage Verb.Subtract Width.Short
+    ∷ onFloat Verb.Add Width.Long
+    ∷ onStorage Verb.Add Width.Long
+    ∷ onFloat Verb.Subtract Width.Long
+    ∷ onStorage Verb.Subtract Width.Long
     ∷ []
 
 -- the row of code n among some rows, the first of which has the code k; an unknown code is a 5
@@ -120,6 +129,8 @@ storedAs Verb.SetMask w = 0
 storedAs Verb.Jump w = 0
 storedAs Verb.CountDown w = 0
 storedAs Verb.Halt w = 0
+storedAs Verb.Add w = 0
+storedAs Verb.Subtract w = 0
 
 abbrev pub storedOf : Operation → ℕ
 storedOf op = storedAs (op .verb) (op .width)
@@ -138,3 +149,5 @@ isHalt Verb.SetMask = false
 isHalt Verb.Jump = false
 isHalt Verb.CountDown = false
 isHalt Verb.Halt = true
+isHalt Verb.Add = false
+isHalt Verb.Subtract = false

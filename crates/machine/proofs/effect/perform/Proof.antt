@@ -107,6 +107,24 @@ count-down-requires c κs = search needs
 enum-told-13 : tie.Need-enum-told-13
 enum-told-13 c = search needs
 
+enum-told-14 : tie.Need-enum-told-14
+enum-told-14 c = search needs
+
+float-operand-requires-4 : tie.Need-float-operand-requires-4
+float-operand-requires-4 c κs = search needs
+
+add-requires : tie.Need-add-requires
+add-requires c κs = search needs
+
+enum-told-15 : tie.Need-enum-told-15
+enum-told-15 c = search needs
+
+float-operand-requires-5 : tie.Need-float-operand-requires-5
+float-operand-requires-5 c κs = search needs
+
+subtract-requires : tie.Need-subtract-requires
+subtract-requires c κs = search needs
+
 returns : tie.Need-returns
 unfolding performed
 returns c = rw (c .before .enum-told .given .1, c .load .ensures)
@@ -165,6 +183,14 @@ returns-13 : tie.Need-returns-13
 unfolding performed
 returns-13 c = rw (c .enum-told13 .given .1)
 
+returns-14 : tie.Need-returns-14
+unfolding performed
+returns-14 c = rw (c .before .before .enum-told14 .given .1, c .add .ensures, c .before .float-operand4 .ensures)
+
+returns-15 : tie.Need-returns-15
+unfolding performed
+returns-15 c = rw (c .before .before .enum-told15 .given .1, c .subtract .ensures, c .before .float-operand5 .ensures)
+
 pub perform-spec : {M : Type 1} → statement M
 perform-spec =
     tie.close
@@ -203,6 +229,12 @@ perform-spec =
     general-at-requires-2
     count-down-requires
     enum-told-13
+    enum-told-14
+    float-operand-requires-4
+    add-requires
+    enum-told-15
+    float-operand-requires-5
+    subtract-requires
     returns
     returns-2
     returns-3
@@ -215,4 +247,6 @@ perform-spec =
     returns-10
     returns-11
     returns-12
-    returns-13)
+    returns-13
+    returns-14
+    returns-15)

@@ -72,6 +72,30 @@ on-cells-requires-3 c κs = search needs
 on-cells-requires-4 : tie.Need-on-cells-requires-4
 on-cells-requires-4 c κs = search needs
 
+on-float-requires-8 : tie.Need-on-float-requires-8
+on-float-requires-8 c κs = search needs
+
+on-storage-requires-11 : tie.Need-on-storage-requires-11
+on-storage-requires-11 c κs = search needs
+
+on-float-requires-9 : tie.Need-on-float-requires-9
+on-float-requires-9 c κs = search needs
+
+on-storage-requires-12 : tie.Need-on-storage-requires-12
+on-storage-requires-12 c κs = search needs
+
+on-float-requires-10 : tie.Need-on-float-requires-10
+on-float-requires-10 c κs = search needs
+
+on-storage-requires-13 : tie.Need-on-storage-requires-13
+on-storage-requires-13 c κs = search needs
+
+on-float-requires-11 : tie.Need-on-float-requires-11
+on-float-requires-11 c κs = search needs
+
+on-storage-requires-14 : tie.Need-on-storage-requires-14
+on-storage-requires-14 c κs = search needs
+
 returns : tie.Need-returns
 unfolding operationOf rowAmong
 returns c = rw (c .before .match .keys1) (c .on-float .ensures)
@@ -162,31 +186,71 @@ returns-22 c = rw (c .before .match .keys22) (c .on-cells4 .ensures)
 
 returns-23 : tie.Need-returns-23
 unfolding operationOf rowAmong
-returns-23 c =
+returns-23 c = rw (c .before .match .keys23) (c .on-float8 .ensures)
+
+returns-24 : tie.Need-returns-24
+unfolding operationOf rowAmong
+returns-24 c = rw (c .before .match .keys24) (c .on-storage11 .ensures)
+
+returns-25 : tie.Need-returns-25
+unfolding operationOf rowAmong
+returns-25 c = rw (c .before .match .keys25) (c .on-float9 .ensures)
+
+returns-26 : tie.Need-returns-26
+unfolding operationOf rowAmong
+returns-26 c = rw (c .before .match .keys26) (c .on-storage12 .ensures)
+
+returns-27 : tie.Need-returns-27
+unfolding operationOf rowAmong
+returns-27 c = rw (c .before .match .keys27) (c .on-float10 .ensures)
+
+returns-28 : tie.Need-returns-28
+unfolding operationOf rowAmong
+returns-28 c = rw (c .before .match .keys28) (c .on-storage13 .ensures)
+
+returns-29 : tie.Need-returns-29
+unfolding operationOf rowAmong
+returns-29 c = rw (c .before .match .keys29) (c .on-float11 .ensures)
+
+returns-30 : tie.Need-returns-30
+unfolding operationOf rowAmong
+returns-30 c = rw (c .before .match .keys30) (c .on-storage14 .ensures)
+
+returns-31 : tie.Need-returns-31
+unfolding operationOf rowAmong
+returns-31 c =
     let r = c .match .rest in
     rw (
-      ne-eqb _ 1 (r .0 .0 .0 .0 .0 .0 .0 .0 .0 .0 .0 .0 .0 .0 .0 .0 .0 .0 .0 .0 .0 .1),
-      ne-eqb _ 2 (r .0 .0 .0 .0 .0 .0 .0 .0 .0 .0 .0 .0 .0 .0 .0 .0 .0 .0 .0 .0 .1),
-      ne-eqb _ 3 (r .0 .0 .0 .0 .0 .0 .0 .0 .0 .0 .0 .0 .0 .0 .0 .0 .0 .0 .0 .1),
-      ne-eqb _ 4 (r .0 .0 .0 .0 .0 .0 .0 .0 .0 .0 .0 .0 .0 .0 .0 .0 .0 .0 .1),
-      ne-eqb _ 5 (r .0 .0 .0 .0 .0 .0 .0 .0 .0 .0 .0 .0 .0 .0 .0 .0 .0 .1),
-      ne-eqb _ 6 (r .0 .0 .0 .0 .0 .0 .0 .0 .0 .0 .0 .0 .0 .0 .0 .0 .1),
-      ne-eqb _ 7 (r .0 .0 .0 .0 .0 .0 .0 .0 .0 .0 .0 .0 .0 .0 .0 .1),
-      ne-eqb _ 8 (r .0 .0 .0 .0 .0 .0 .0 .0 .0 .0 .0 .0 .0 .0 .1),
-      ne-eqb _ 9 (r .0 .0 .0 .0 .0 .0 .0 .0 .0 .0 .0 .0 .0 .1),
-      ne-eqb _ 10 (r .0 .0 .0 .0 .0 .0 .0 .0 .0 .0 .0 .0 .1),
-      ne-eqb _ 11 (r .0 .0 .0 .0 .0 .0 .0 .0 .0 .0 .0 .1),
-      ne-eqb _ 12 (r .0 .0 .0 .0 .0 .0 .0 .0 .0 .0 .1),
-      ne-eqb _ 13 (r .0 .0 .0 .0 .0 .0 .0 .0 .0 .1),
-      ne-eqb _ 14 (r .0 .0 .0 .0 .0 .0 .0 .0 .1),
-      ne-eqb _ 15 (r .0 .0 .0 .0 .0 .0 .0 .1),
-      ne-eqb _ 16 (r .0 .0 .0 .0 .0 .0 .1),
-      ne-eqb _ 17 (r .0 .0 .0 .0 .0 .1),
-      ne-eqb _ 18 (r .0 .0 .0 .0 .1),
-      ne-eqb _ 19 (r .0 .0 .0 .1),
-      ne-eqb _ 20 (r .0 .0 .1),
-      ne-eqb _ 21 (r .0 .1),
-      ne-eqb _ 22 (r .1),
+      ne-eqb _ 1 (r .0 .0 .0 .0 .0 .0 .0 .0 .0 .0 .0 .0 .0 .0 .0 .0 .0 .0 .0 .0 .0 .0 .0 .0 .0 .0 .0 .0 .0 .1),
+      ne-eqb _ 2 (r .0 .0 .0 .0 .0 .0 .0 .0 .0 .0 .0 .0 .0 .0 .0 .0 .0 .0 .0 .0 .0 .0 .0 .0 .0 .0 .0 .0 .1),
+      ne-eqb _ 3 (r .0 .0 .0 .0 .0 .0 .0 .0 .0 .0 .0 .0 .0 .0 .0 .0 .0 .0 .0 .0 .0 .0 .0 .0 .0 .0 .0 .1),
+      ne-eqb _ 4 (r .0 .0 .0 .0 .0 .0 .0 .0 .0 .0 .0 .0 .0 .0 .0 .0 .0 .0 .0 .0 .0 .0 .0 .0 .0 .0 .1),
+      ne-eqb _ 5 (r .0 .0 .0 .0 .0 .0 .0 .0 .0 .0 .0 .0 .0 .0 .0 .0 .0 .0 .0 .0 .0 .0 .0 .0 .0 .1),
+      ne-eqb _ 6 (r .0 .0 .0 .0 .0 .0 .0 .0 .0 .0 .0 .0 .0 .0 .0 .0 .0 .0 .0 .0 .0 .0 .0 .0 .1),
+      ne-eqb _ 7 (r .0 .0 .0 .0 .0 .0 .0 .0 .0 .0 .0 .0 .0 .0 .0 .0 .0 .0 .0 .0 .0 .0 .0 .1),
+      ne-eqb _ 8 (r .0 .0 .0 .0 .0 .0 .0 .0 .0 .0 .0 .0 .0 .0 .0 .0 .0 .0 .0 .0 .0 .0 .1),
+      ne-eqb _ 9 (r .0 .0 .0 .0 .0 .0 .0 .0 .0 .0 .0 .0 .0 .0 .0 .0 .0 .0 .0 .0 .0 .1),
+      ne-eqb _ 10 (r .0 .0 .0 .0 .0 .0 .0 .0 .0 .0 .0 .0 .0 .0 .0 .0 .0 .0 .0 .0 .1),
+      ne-eqb _ 11 (r .0 .0 .0 .0 .0 .0 .0 .0 .0 .0 .0 .0 .0 .0 .0 .0 .0 .0 .0 .1),
+      ne-eqb _ 12 (r .0 .0 .0 .0 .0 .0 .0 .0 .0 .0 .0 .0 .0 .0 .0 .0 .0 .0 .1),
+      ne-eqb _ 13 (r .0 .0 .0 .0 .0 .0 .0 .0 .0 .0 .0 .0 .0 .0 .0 .0 .0 .1),
+      ne-eqb _ 14 (r .0 .0 .0 .0 .0 .0 .0 .0 .0 .0 .0 .0 .0 .0 .0 .0 .1),
+      ne-eqb _ 15 (r .0 .0 .0 .0 .0 .0 .0 .0 .0 .0 .0 .0 .0 .0 .0 .1),
+      ne-eqb _ 16 (r .0 .0 .0 .0 .0 .0 .0 .0 .0 .0 .0 .0 .0 .0 .1),
+      ne-eqb _ 17 (r .0 .0 .0 .0 .0 .0 .0 .0 .0 .0 .0 .0 .0 .1),
+      ne-eqb _ 18 (r .0 .0 .0 .0 .0 .0 .0 .0 .0 .0 .0 .0 .1),
+      ne-eqb _ 19 (r .0 .0 .0 .0 .0 .0 .0 .0 .0 .0 .0 .1),
+      ne-eqb _ 20 (r .0 .0 .0 .0 .0 .0 .0 .0 .0 .0 .1),
+      ne-eqb _ 21 (r .0 .0 .0 .0 .0 .0 .0 .0 .0 .1),
+      ne-eqb _ 22 (r .0 .0 .0 .0 .0 .0 .0 .0 .1),
+      ne-eqb _ 23 (r .0 .0 .0 .0 .0 .0 .0 .1),
+      ne-eqb _ 24 (r .0 .0 .0 .0 .0 .0 .1),
+      ne-eqb _ 25 (r .0 .0 .0 .0 .0 .1),
+      ne-eqb _ 26 (r .0 .0 .0 .0 .1),
+      ne-eqb _ 27 (r .0 .0 .0 .1),
+      ne-eqb _ 28 (r .0 .0 .1),
+      ne-eqb _ 29 (r .0 .1),
+      ne-eqb _ 30 (r .1),
     )
 
 pub look-up-spec : {M : Type 1} → statement M
@@ -215,6 +279,14 @@ look-up-spec =
     on-cells-requires-2
     on-cells-requires-3
     on-cells-requires-4
+    on-float-requires-8
+    on-storage-requires-11
+    on-float-requires-9
+    on-storage-requires-12
+    on-float-requires-10
+    on-storage-requires-13
+    on-float-requires-11
+    on-storage-requires-14
     returns
     returns-2
     returns-3
@@ -237,4 +309,12 @@ look-up-spec =
     returns-20
     returns-21
     returns-22
-    returns-23)
+    returns-23
+    returns-24
+    returns-25
+    returns-26
+    returns-27
+    returns-28
+    returns-29
+    returns-30
+    returns-31)
