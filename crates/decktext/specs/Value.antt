@@ -82,6 +82,14 @@ mnemonics =
     ∷ (74 ∷ 67 ∷ [])  -- JC
     ∷ (74 ∷ 78 ∷ [])  -- JN
     ∷ (72 ∷ 65 ∷ 76 ∷ 84 ∷ [])  -- HALT
+    ∷ (65 ∷ 69 ∷ 82 ∷ [])  -- AER
+    ∷ (65 ∷ 69 ∷ [])  -- AE
+    ∷ (83 ∷ 69 ∷ 82 ∷ [])  -- SER
+    ∷ (83 ∷ 69 ∷ [])  -- SE
+    ∷ (65 ∷ 69 ∷ 68 ∷ 82 ∷ [])  -- AEDR
+    ∷ (65 ∷ 69 ∷ 68 ∷ [])  -- AED
+    ∷ (83 ∷ 69 ∷ 68 ∷ 82 ∷ [])  -- SEDR
+    ∷ (83 ∷ 69 ∷ 68 ∷ [])  -- SED
     ∷ []
 
 -- the code of a name among some mnemonics, the first of which has the code n

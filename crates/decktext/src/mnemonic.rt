@@ -49,6 +49,7 @@ fn entry(slot: u64) -> u64
 {
     match slot {
         0 => 0x868a88c8, // CED
+        2 => 0xa68a88a51d, // SEDR
         3 => 0x868aa4c5, // CER
         5 => 0x86ac8c990a, // CVFL
         6 => 0x948694, // JC
@@ -57,18 +58,25 @@ fn entry(slot: u64) -> u64
         11 => 0x888a8c, // DE
         12 => 0xaa9a93, // UM
         15 => 0x9851, // L
+        17 => 0xa68a88de, // SED
         18 => 0x908298a916, // HALT
+        20 => 0xa68aa4d9, // SER
         22 => 0x868a86, // CE
         28 => 0xa6a88a8910, // STED
+        33 => 0xa68a9a, // SE
         34 => 0x868a88a507, // CEDR
         36 => 0xa6a892, // ST
         39 => 0xa6a88acf, // STE
         41 => 0x888a88ce, // DED
         44 => 0x888aa4cb, // DER
+        45 => 0x828a98, // AE
+        46 => 0x828a88dc, // AED
         48 => 0x988a82, // LE
+        49 => 0x828aa4d7, // AER
         50 => 0x988a88c3, // LED
         52 => 0x988a86a504, // LECR
         53 => 0x988aa4c1, // LER
+        54 => 0x828a88a51b, // AEDR
         56 => 0x888a88a50d, // DEDR
         _ => 0,
     }
