@@ -22,6 +22,16 @@ pub fn run(c: Case) -> Answer {
         b'D' => result(hexfloat::divide(Width::Long, c.mask, c.a, c.b)),
         b'c' => compared(hexfloat::compare(Width::Short, c.a, c.b)),
         b'C' => compared(hexfloat::compare(Width::Long, c.a, c.b)),
+        b'a' => sum(Width::Short, hexfloat::add(Width::Short, c.mask, c.a, c.b)),
+        b'A' => sum(Width::Long, hexfloat::add(Width::Long, c.mask, c.a, c.b)),
+        b's' => sum(
+            Width::Short,
+            hexfloat::subtract(Width::Short, c.mask, c.a, c.b),
+        ),
+        b'S' => sum(
+            Width::Long,
+            hexfloat::subtract(Width::Long, c.mask, c.a, c.b),
+        ),
         b'x' => fixed(hexfloat::to_fixed(c.a.high)),
         // `f`, the last of the ops that a case has
         _ => coded(hexfloat::to_float(c.a.high)),
@@ -34,6 +44,19 @@ fn result(r: Result) -> Answer {
         Result::ZeroDivisor => stopped(8),
         Result::Overflow => stopped(9),
         Result::Underflow => stopped(10),
+    }
+}
+
+// A result that sets the condition code.
+fn sum(width: Width, r: Result) -> Answer {
+    let a = result(r);
+    if a.stop != 0 {
+        return a;
+    }
+    Answer {
+        words: a.words,
+        stop: 0,
+        condition: hexfloat::condition(width, a.words),
     }
 }
 

@@ -77,6 +77,7 @@ fn is_framed(line: &[u8; 38]) -> bool {
 fn is_op(b: u8) -> bool {
     match b {
         b'd' | b'D' | b'c' | b'C' | b'x' | b'f' => true,
+        b'a' | b'A' | b's' | b'S' => true,
         _ => false,
     }
 }
