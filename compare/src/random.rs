@@ -22,16 +22,31 @@ impl Random {
         self.below(one_in) == 0
     }
 
-    /// A float word with a fraction that is often short or zero, and any characteristic.
+    /// A float word with a fraction that is often short or zero, and any characteristic, often one at the ends of the range.
     pub fn float(&mut self) -> u32 {
         let w = self.next() as u32;
-        match self.below(8) {
+        match self.below(9) {
             0 => w & 0xff00_0000,
             1 => w & 0xff00_00ff,
             2 => w & 0xff00_0000 | 1 << self.below(24),
             3 => 0x4100_0000 | w & 0x80ff_ffff,
             4 => 0,
+            5 => w & 0x81ff_ffff | (self.below(2) as u32 * 0x7e00_0000),
             _ => w,
+        }
+    }
+
+    /// A long number of either sign near another: the same, one bit of its fraction changed, its characteristic some digits
+    /// higher, or its fraction moved right by as many.
+    pub fn near(&mut self, w: u64) -> u64 {
+        let (sign, digits) = (self.below(2) << 63, self.below(17) >> self.below(2));
+        let higher = w.wrapping_add(digits << 56) & 0x7f << 56;
+        let fraction = w & !(0xff << 56);
+        sign ^ match self.below(4) {
+            0 => w,
+            1 => w ^ 1 << self.below(56),
+            2 => higher | fraction,
+            _ => higher | fraction >> (4 * digits).min(63),
         }
     }
 }

@@ -29,6 +29,8 @@ struct Number {
     fraction: u64,
 }
 
+const TRUE_ZERO: Number = Number { negative: false, characteristic: 0, fraction: 0 };
+
 fn short(w: u32) -> Number {
     Number {
         negative: w >> 31 == 1,
@@ -85,15 +87,26 @@ fn compare(a: Number, b: Number, d: u32) -> u8 {
     }
 }
 
+/// A result whose characteristic has been worked out: overflow is a stop, and so is underflow under mask 1;
+/// under mask 0 an underflow gives true zero.
+#[inline]
+fn ranged(n: Number, mask: bool) -> Result<Number, u8> {
+    match n.characteristic {
+        128.. => Err(9),
+        0..=127 => Ok(n),
+        _ if mask => Err(10),
+        _ => Ok(TRUE_ZERO),
+    }
+}
+
 /// The quotient of two numbers of d digits: sign, characteristic and fraction, or a stop.
 #[inline]
 fn divide(a: Number, b: Number, d: u32, mask: bool) -> Result<Number, u8> {
-    let zero = Number { negative: false, characteristic: 0, fraction: 0 };
     if b.fraction == 0 {
         return Err(8);
     }
     if a.fraction == 0 {
-        return Ok(zero);
+        return Ok(TRUE_ZERO);
     }
     let (x, y) = (normal(a, d), normal(b, d));
     // x.fraction / y.fraction lies between 1/16 and 16
@@ -104,13 +117,44 @@ fn divide(a: Number, b: Number, d: u32, mask: bool) -> Result<Number, u8> {
         (((x.fraction as u128) << (4 * shift)) / y.fraction as u128) as u64
     };
     let characteristic = x.characteristic - y.characteristic + 64 + carry;
-    if characteristic > 127 {
-        return Err(9);
+    ranged(Number { negative: a.negative != b.negative, characteristic, fraction }, mask)
+}
+
+/// An operand of a sum: with a zero fraction it counts as true zero.
+fn operand(n: Number) -> Number {
+    if n.fraction == 0 {
+        TRUE_ZERO
+    } else {
+        n
     }
-    if characteristic < 0 {
-        return if mask { Err(10) } else { Ok(zero) };
+}
+
+/// The fraction with its sign and one guard digit at the right, moved right until its characteristic is c. What falls past
+/// the guard digit is dropped.
+#[inline]
+fn aligned(n: Number, c: i32) -> i64 {
+    let places = c - n.characteristic;
+    let fraction = if places < 16 { (n.fraction << 4) >> (4 * places) } else { 0 };
+    if n.negative {
+        -(fraction as i64)
+    } else {
+        fraction as i64
     }
-    Ok(Number { negative: a.negative != b.negative, characteristic, fraction })
+}
+
+/// The sum of two numbers of d digits: sign, characteristic and fraction, or a stop.
+#[inline]
+fn add(a: Number, b: Number, d: u32, mask: bool) -> Result<Number, u8> {
+    let (x, y) = (operand(a), operand(b));
+    let c = x.characteristic.max(y.characteristic);
+    let sum = aligned(x, c) + aligned(y, c);
+    if sum == 0 {
+        return Ok(TRUE_ZERO);
+    }
+    // a carry, d digits and the guard digit: as a fraction of d + 2 digits it belongs to c + 1
+    let whole = Number { negative: sum < 0, characteristic: c + 1, fraction: sum.unsigned_abs() };
+    let n = normal(whole, d + 2);
+    ranged(Number { fraction: n.fraction >> 8, ..n }, mask)
 }
 
 fn pack_short(n: Number) -> u32 {
@@ -170,9 +214,9 @@ fn to_float(w: u32) -> (u32, u8) {
 /// Largest r1 and r2, whether `at` is in use, and the halfwords of the storage operand.
 fn form(code: u16) -> Option<(u16, u16, bool, usize)> {
     Some(match code {
-        1 | 4 | 5 | 7 | 9 | 10 | 11 | 13 => (7, 7, false, 0),
-        2 | 6 | 12 | 15 | 17 | 18 => (7, 0, true, 2),
-        3 | 8 | 14 | 16 => (7, 0, true, 4),
+        1 | 4 | 5 | 7 | 9 | 10 | 11 | 13 | 23 | 25 | 27 | 29 => (7, 7, false, 0),
+        2 | 6 | 12 | 15 | 17 | 18 | 24 | 26 => (7, 0, true, 2),
+        3 | 8 | 14 | 16 | 28 | 30 => (7, 0, true, 4),
         19 => (0, 1, false, 0),
         20 | 21 => (7, 0, true, 0),
         22 => (0, 0, false, 0),
@@ -190,6 +234,12 @@ pub fn legal(cells: [u16; 4]) -> bool {
 
 fn stores(code: u16) -> bool {
     matches!(code, 15 | 16 | 18)
+}
+
+/// The second operand of an add, or that of a subtract with its sign inverted.
+fn addend(code: u16, n: Number) -> Number {
+    let subtract = matches!(code, 25 | 26 | 29 | 30);
+    Number { negative: n.negative != subtract, ..n }
 }
 
 /// What a step overwrites.
@@ -322,6 +372,16 @@ fn effect(s: &State, cells: [u16; 4], memory: &[u16]) -> Result<Effect, u8> {
                 e.pointer = at;
             }
             e
+        }
+        23 | 24 | 25 | 26 => {
+            let n = add(short(s.float[r1]), addend(code, short(second_short())), 6, s.mask == 1)?;
+            next(Change::Float(r1, pack_short(n)), sign_code(n))
+        }
+        27 | 28 | 29 | 30 => {
+            let ((a, b), (c, d)) = (pair(r1), second_long());
+            let n = add(long(a, b), addend(code, long(c, d)), 14, s.mask == 1)?;
+            let (h, l) = pack_long(n);
+            next(Change::Pair(r1, h, l), sign_code(n))
         }
         _ => return Err(12),
     })
@@ -460,9 +520,9 @@ pub fn back(s: &mut State, b: &mut Buffers) -> u8 {
 
 // ---- deck text
 
-pub const MNEMONICS: [&str; 22] = [
+pub const MNEMONICS: [&str; 30] = [
     "LER", "LE", "LED", "LECR", "CER", "CE", "CEDR", "CED", "CVFX", "CVFL", "DER", "DE", "DEDR", "DED", "STE",
-    "STED", "L", "ST", "UM", "JC", "JN", "HALT",
+    "STED", "L", "ST", "UM", "JC", "JN", "HALT", "AER", "AE", "SER", "SE", "AEDR", "AED", "SEDR", "SED",
 ];
 
 fn decimal(v: &[u8]) -> Option<u16> {
@@ -511,6 +571,14 @@ fn mnemonic(v: &[u8]) -> Option<u16> {
         b"JC" => 20,
         b"JN" => 21,
         b"HALT" => 22,
+        b"AER" => 23,
+        b"AE" => 24,
+        b"SER" => 25,
+        b"SE" => 26,
+        b"AEDR" => 27,
+        b"AED" => 28,
+        b"SEDR" => 29,
+        b"SED" => 30,
         _ => return None,
     })
 }

@@ -67,6 +67,30 @@ fn divide(ca: u32, fa: u64, cb: u32, fb: u64, d: u32, mask: bool) -> Q {
     let q = if d == 6 { (x << n) / y } else { (((x as u128) << n) / y as u128) as u64 };
     Q::Of(c as u32, q)
 }
+/// The words a and b give the signs and the characteristics; the sign of the sum stands above its characteristic.
+#[inline(always)]
+fn add(a: u32, fa: u64, b: u32, fb: u64, d: u32, mask: bool) -> Q {
+    let ca = if fa == 0 { 0 } else { ch(a) };
+    let cb = if fb == 0 { 0 } else { ch(b) };
+    let c = ca.max(cb);
+    // a guard digit each; what is moved past it is lost
+    let x = (fa << 4 >> (4 * (c - ca)).min(63)) as i64;
+    let y = (fb << 4 >> (4 * (c - cb)).min(63)) as i64;
+    let sum = if (a ^ b) >> 31 == 1 { x - y } else { x + y };
+    if sum == 0 {
+        return Q::Zero;
+    }
+    let g = sum.unsigned_abs();
+    let z = g.leading_zeros() / 4;
+    let c = (c + 15 - d) as i32 - z as i32;
+    if c > 127 {
+        return Q::Stop(9);
+    }
+    if c < 0 {
+        return if mask { Q::Stop(10) } else { Q::Zero };
+    }
+    Q::Of((a >> 31 ^ (sum < 0) as u32) << 7 | c as u32, g << (4 * z) >> (64 - 4 * d))
+}
 #[inline(always)]
 fn ch(w: u32) -> u32 {
     w >> 24 & 127
@@ -93,20 +117,20 @@ impl Run<'_> {
         self.s.used += 1;
     }
     #[inline(always)]
-    fn float(&mut self, r: usize, w: u32, code: u8) {
+    fn float(&mut self, r: usize, w: u32, code: u8, p: u16) {
         self.record(1, r as u32, self.s.float[r], 0);
         self.s.float[r] = w;
         self.s.code = code;
-        self.s.pointer += 1;
+        self.s.pointer = p;
     }
     #[inline(always)]
-    fn pair(&mut self, r: usize, h: u32, l: u32, code: u8) {
+    fn pair(&mut self, r: usize, h: u32, l: u32, code: u8, p: u16) {
         let r2 = (r + 1) % 8;
         self.record(2, r as u32, self.s.float[r], self.s.float[r2]);
         self.s.float[r] = h;
         self.s.float[r2] = l;
         self.s.code = code;
-        self.s.pointer += 1;
+        self.s.pointer = p;
     }
     #[inline(always)]
     fn general(&mut self, r: usize, w: u32, code: u8, p: u16) {
@@ -124,17 +148,18 @@ impl Run<'_> {
     }
 }
 
-const LIMITS: [(u16, u16, u16, u8, u8); 23] = {
-    let mut t = [(0u16, 0u16, 0u16, 0u8, 0u8); 23];
+const LIMITS: [(u16, u16, u16, u8, u8); 31] = {
+    let mut t = [(0u16, 0u16, 0u16, 0u8, 0u8); 31];
     let mut k = 1;
-    while k < 22 {
+    while k < 31 {
         t[k] = match k {
-            1 | 4 | 5 | 7 | 9 | 10 | 11 | 13 => (7, 7, 0, 0, 0),
+            1 | 4 | 5 | 7 | 9 | 10 | 11 | 13 | 23 | 25 | 27 | 29 => (7, 7, 0, 0, 0),
             15 | 18 => (7, 0, 65535, 2, 2),
             16 => (7, 0, 65535, 4, 4),
-            2 | 6 | 12 | 17 => (7, 0, 65535, 2, 0),
-            3 | 8 | 14 => (7, 0, 65535, 4, 0),
+            2 | 6 | 12 | 17 | 24 | 26 => (7, 0, 65535, 2, 0),
+            3 | 8 | 14 | 28 | 30 => (7, 0, 65535, 4, 0),
             19 => (0, 1, 0, 0, 0),
+            22 => (0, 0, 0, 0, 0),
             _ => (7, 0, 65535, 0, 0),
         };
         k += 1;
@@ -166,7 +191,7 @@ pub fn run(st: &mut State, b: &mut Buffers, limit: u32) -> (u32, u8) {
         }
         let o = &deck[4 * p..4 * p + 4];
         let (code, r1, r2, at) = (o[0], o[1], o[2], o[3]);
-        if code == 0 || code > 22 {
+        if code == 0 || code > 30 {
             stop = 5;
             break;
         }
@@ -200,20 +225,20 @@ pub fn run(st: &mut State, b: &mut Buffers, limit: u32) -> (u32, u8) {
         match code {
             1 => {
                 let w = s.float[j];
-                m.float(i, w, sign_code(w >> 31 == 1, fr(w)));
+                m.float(i, w, sign_code(w >> 31 == 1, fr(w)), next);
             }
             2 => {
                 let w = word(memory, a);
-                m.float(i, w, sign_code(w >> 31 == 1, fr(w)));
+                m.float(i, w, sign_code(w >> 31 == 1, fr(w)), next);
             }
             3 => {
                 let (h, l) = (word(memory, a), word(memory, a + 2));
-                m.pair(i, h, l, sign_code(h >> 31 == 1, fr(h) << 32 | l as u64));
+                m.pair(i, h, l, sign_code(h >> 31 == 1, fr(h) << 32 | l as u64), next);
             }
             4 => {
                 let w = s.float[j];
                 let w = if fr(w) == 0 { 0 } else { w ^ 0x8000_0000 };
-                m.float(i, w, sign_code(w >> 31 == 1, fr(w)));
+                m.float(i, w, sign_code(w >> 31 == 1, fr(w)), next);
             }
             5 | 6 => {
                 let y = if code == 5 { s.float[j] } else { word(memory, a) };
@@ -273,12 +298,12 @@ pub fn run(st: &mut State, b: &mut Buffers, limit: u32) -> (u32, u8) {
             10 => {
                 let v = s.general[j] as i32;
                 if v == 0 {
-                    m.float(i, 0, 0);
+                    m.float(i, 0, 0, next);
                 } else {
                     let g = v.unsigned_abs();
                     let z = g.leading_zeros() / 4;
                     let w = (v as u32 & 0x8000_0000) | (68 - z) << 24 | (g << (4 * z)) >> 8;
-                    m.float(i, w, sign_code(v < 0, fr(w)));
+                    m.float(i, w, sign_code(v < 0, fr(w)), next);
                 }
             }
             11 | 12 => {
@@ -288,8 +313,8 @@ pub fn run(st: &mut State, b: &mut Buffers, limit: u32) -> (u32, u8) {
                         stop = n;
                         break;
                     }
-                    Q::Zero => m.float(i, 0, cc),
-                    Q::Of(c, f) => m.float(i, (fa ^ y) & 0x8000_0000 | c << 24 | f as u32, cc),
+                    Q::Zero => m.float(i, 0, cc, next),
+                    Q::Of(c, f) => m.float(i, (fa ^ y) & 0x8000_0000 | c << 24 | f as u32, cc, next),
                 }
             }
             13 | 14 => {
@@ -303,8 +328,8 @@ pub fn run(st: &mut State, b: &mut Buffers, limit: u32) -> (u32, u8) {
                         stop = n;
                         break;
                     }
-                    Q::Zero => m.pair(i, 0, 0, cc),
-                    Q::Of(c, f) => m.pair(i, (fa ^ h) & 0x8000_0000 | c << 24 | (f >> 32) as u32, f as u32, cc),
+                    Q::Zero => m.pair(i, 0, 0, cc, next),
+                    Q::Of(c, f) => m.pair(i, (fa ^ h) & 0x8000_0000 | c << 24 | (f >> 32) as u32, f as u32, cc, next),
                 }
             }
             15 | 18 => {
@@ -341,9 +366,39 @@ pub fn run(st: &mut State, b: &mut Buffers, limit: u32) -> (u32, u8) {
                 };
                 m.nothing(cc, mask, if r1 & bit != 0 { at } else { next });
             }
-            _ => {
+            21 => {
                 let w = s.general[i].wrapping_sub(1);
                 m.general(i, w, cc, if w != 0 { at } else { next });
+            }
+            23 | 24 | 25 | 26 => {
+                let y = if code & 1 == 1 { s.float[j] } else { word(memory, a) };
+                // 25 and 26 subtract
+                let y = y ^ (code as u32 - 23) << 30 & 0x8000_0000;
+                match add(fa, fr(fa), y, fr(y), 6, mask == 1) {
+                    Q::Stop(n) => {
+                        stop = n;
+                        break;
+                    }
+                    Q::Zero => m.float(i, 0, 0, next),
+                    Q::Of(c, f) => m.float(i, c << 24 | f as u32, if c > 127 { 3 } else { 1 }, next),
+                }
+            }
+            _ => {
+                let (h, l) = if code & 1 == 1 {
+                    (s.float[j], s.float[(j + 1) & 7])
+                } else {
+                    (word(memory, a), word(memory, a + 2))
+                };
+                // 29 and 30 subtract
+                let h = h ^ (code as u32 - 27) << 30 & 0x8000_0000;
+                match add(fa, fr(fa) << 32 | fb as u64, h, fr(h) << 32 | l as u64, 14, mask == 1) {
+                    Q::Stop(n) => {
+                        stop = n;
+                        break;
+                    }
+                    Q::Zero => m.pair(i, 0, 0, 0, next),
+                    Q::Of(c, f) => m.pair(i, c << 24 | (f >> 32) as u32, f as u32, if c > 127 { 3 } else { 1 }, next),
+                }
             }
         }
         count += 1;
@@ -488,7 +543,15 @@ fn code(key: u32) -> Option<u16> {
         UM = 19,
         JC = 20,
         JN = 21,
-        HALT = 22
+        HALT = 22,
+        AER = 23,
+        AE = 24,
+        SER = 25,
+        SE = 26,
+        AEDR = 27,
+        AED = 28,
+        SEDR = 29,
+        SED = 30
     )
 }
 

@@ -10,7 +10,7 @@ const CALLS: u64 = 1_200_000;
 fn order(r: &mut Random, orders: u64, memory: u64) -> [u16; 4] {
     let mut cells = [0u16; 4];
     loop {
-        cells[0] = r.below(22) as u16 + 1;
+        cells[0] = r.below(30) as u16 + 1;
         // HALT ends a run, so it is seldom
         if cells[0] != 22 || r.chance(20) {
             break;
@@ -22,13 +22,13 @@ fn order(r: &mut Random, orders: u64, memory: u64) -> [u16; 4] {
         _ => r.below(memory + 2) as u16,
     };
     match cells[0] {
-        2 | 3 | 6 | 8 | 12 | 14..=18 | 20 | 21 => (cells[1], cells[3]) = (register, at),
+        2 | 3 | 6 | 8 | 12 | 14..=18 | 20 | 21 | 24 | 26 | 28 | 30 => (cells[1], cells[3]) = (register, at),
         19 => cells[2] = register % 2,
         22 => {}
         _ => (cells[1], cells[2]) = (register, r.below(8) as u16),
     }
     if r.chance(40) {
-        cells[r.below(4) as usize] = r.below(70_000) as u16;
+        cells[r.below(4) as usize] = (r.below(70_000) >> r.below(17)) as u16;
     }
     cells
 }
@@ -81,10 +81,27 @@ fn buffers(r: &mut Random) -> Buffers {
     }
 }
 
+/// Pairs and storage near one number, so that sums cancel and carry.
+fn alike(r: &mut Random, s: &mut State, memory: &mut [u16]) {
+    let words = [r.float(), r.float()].map(u64::from);
+    let number = words[0] << 32 | words[r.below(2) as usize];
+    for pair in s.float.chunks_exact_mut(2) {
+        let w = r.near(number);
+        pair.copy_from_slice(&[(w >> 32) as u32, w as u32]);
+    }
+    for halfwords in memory.chunks_exact_mut(4) {
+        let w = r.near(number);
+        halfwords.copy_from_slice(&[(w >> 48) as u16, (w >> 32) as u16, (w >> 16) as u16, w as u16]);
+    }
+}
+
 /// Calls on one machine until the budget of this machine is spent; how many were made.
 fn machine(r: &mut Random) -> u64 {
     let mut b = buffers(r);
     let mut s = state(r);
+    if !r.chance(4) {
+        alike(r, &mut s, &mut b.memory);
+    }
     if r.chance(6) {
         wild(r, &mut s);
     }

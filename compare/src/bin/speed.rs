@@ -156,10 +156,10 @@ fn words(r: &mut Random, mask: u32) -> Vec<u16> {
 fn text(r: &mut Random) -> Vec<u8> {
     let mut t = b"op r1 r2 at\n".to_vec();
     loop {
-        let code = r.below(22) as usize;
+        let code = r.below(30) as usize;
         let (a, b) = (r.below(8), r.below(8));
         let line = match code + 1 {
-            1 | 4 | 5 | 7 | 9 | 10 | 11 | 13 => format!("{} {a} {b} 0\n", MNEMONICS[code]),
+            1 | 4 | 5 | 7 | 9 | 10 | 11 | 13 | 23 | 25 | 27 | 29 => format!("{} {a} {b} 0\n", MNEMONICS[code]),
             19 => format!("UM 0 {} 0\n", b % 2),
             22 => "HALT 0 0 0\n".to_string(),
             _ => format!("{} {a} 0 {}\n", MNEMONICS[code], r.below(4_000)),
@@ -254,6 +254,12 @@ fn main() {
     let compares: Vec<[u16; 4]> = (0..12).map(|k| [5 + k % 2 * 2, k % 8, (k + 3) % 8, 0]).collect();
     let moves: Vec<[u16; 4]> =
         (0..12).map(|k| [[2, 15, 3, 16, 17, 18][k as usize % 6], k % 6, 0, k * 4]).collect();
+    // what an add puts on is a little more than what a subtract takes off, so that the sums walk slowly, some through zero
+    let short_sums: Vec<[u16; 4]> = (0..12).map(|k| [23 + k % 2 * 2, k % 3 * 2, 6 + k % 2, 0]).collect();
+    let long_sums: Vec<[u16; 4]> = (0..12).map(|k| [28 + k % 2 * 2, k % 3 * 2, 0, k % 2 * 4]).collect();
+    let mut walking = near_one;
+    (walking.float[6], walking.float[7]) = (0x4180_2345, 0x417f_fedc);
+    let addends = vec![0x4208, 0x0123, 0x4567, 0x89ab, 0x4207, 0xffed, 0xcba9, 0x8765];
     let rows = [
         run("(a) a mixed deck with loops", &mixed, floats(r, 0x80ff_ffff), words(r, 0xff_ffff)),
         run("(b) short divides", &shorts, near_one, vec![0; 64]),
@@ -262,6 +268,8 @@ fn main() {
         run("(e) loads and stores", &moves, floats(r, 0x80ff_ffff), words(r, 0xff_ffff)),
         stepping("(f) single steps of the mixed deck", &mixed, floats(r, 0x80ff_ffff), words(r, 0xff_ffff)),
         reading(r),
+        run("(h) short sums", &short_sums, walking, vec![0; 64]),
+        run("(i) long sums, unnormalised", &long_sums, floats(r, 0x800f_ffff), addends),
     ];
     println!("{:<36} {:>8} {:>8} {:>8} {:>9} {:>9}", "", "proved", "plain", "tuned", "to plain", "to tuned");
     for r in &rows {
