@@ -3,6 +3,7 @@ use crate::case::Case;
 use hexfloat::Coded;
 use hexfloat::Fixed;
 use hexfloat::Result;
+use hexfloat::Sense;
 use hexfloat::Width;
 use hexfloat::Words;
 
@@ -22,16 +23,10 @@ pub fn run(c: Case) -> Answer {
         b'D' => result(hexfloat::divide(Width::Long, c.mask, c.a, c.b)),
         b'c' => compared(hexfloat::compare(Width::Short, c.a, c.b)),
         b'C' => compared(hexfloat::compare(Width::Long, c.a, c.b)),
-        b'a' => sum(Width::Short, hexfloat::add(Width::Short, c.mask, c.a, c.b)),
-        b'A' => sum(Width::Long, hexfloat::add(Width::Long, c.mask, c.a, c.b)),
-        b's' => sum(
-            Width::Short,
-            hexfloat::subtract(Width::Short, c.mask, c.a, c.b),
-        ),
-        b'S' => sum(
-            Width::Long,
-            hexfloat::subtract(Width::Long, c.mask, c.a, c.b),
-        ),
+        b'a' => sum(Sense::Plus, Width::Short, c),
+        b'A' => sum(Sense::Plus, Width::Long, c),
+        b's' => sum(Sense::Minus, Width::Short, c),
+        b'S' => sum(Sense::Minus, Width::Long, c),
         b'x' => fixed(hexfloat::to_fixed(c.a.high)),
         // `f`, the last of the ops that a case has
         _ => coded(hexfloat::to_float(c.a.high)),
@@ -48,8 +43,8 @@ fn result(r: Result) -> Answer {
 }
 
 // A result that sets the condition code.
-fn sum(width: Width, r: Result) -> Answer {
-    let a = result(r);
+fn sum(sense: Sense, width: Width, c: Case) -> Answer {
+    let a = result(hexfloat::sum(sense, width, c.mask, c.a, c.b));
     if a.stop != 0 {
         return a;
     }

@@ -4,16 +4,17 @@ use mathlib.Core.Bool.{Bool, true, false, cond}
 use Prim.Native.Nat.{ℕ, _+_, _*_, _^_, _≤_}
 use native.Mathlib.Omega.{arith}
 use lib.Dec.{ltb, leb, eqb}
+use Rattle.hexfloat.specs.declared.addition.Sense.{Sense}
 use Rattle.hexfloat.specs.declared.word.Coded.{Coded}
 use Rattle.hexfloat.specs.declared.word.Parts.{Parts}
 use Rattle.hexfloat.specs.Answer.{Answer, gives, stops, mapped}
-use Rattle.hexfloat.specs.Word.{digitsOf, partsOf, wordsOf, shortParts, inverted, magnitude}
+use Rattle.hexfloat.specs.Word.{digitsOf, partsOf, wordsOf, shortParts, magnitude}
 use Rattle.hexfloat.specs.Condition.{IsCondition, zero, greater, less, conditionBy, operandCondition, generalCondition}
 use Rattle.hexfloat.specs.Compare.{compared, comparedWords}
 use Rattle.hexfloat.specs.Convert.{toFixed, toFloat, fixedMagnitude}
 use Rattle.hexfloat.specs.Result.{resultOf, underflow}
 use Rattle.hexfloat.specs.Divide.{quotient, quotientWords}
-use Rattle.hexfloat.specs.Add.{sum, difference, resultOfSum, sumWords, differenceWords}
+use Rattle.hexfloat.specs.Add.{addendOf, sum, resultOfSum, summed, summedWords}
 use Rattle.hexfloat.specs.Theorems.{ConditionsSet, Numbered, given, stopped, StopsNumbered}
 
 by-tests : (equal above : Bool) → IsCondition (conditionBy equal above)
@@ -61,15 +62,18 @@ of-sum : (d : ℕ) (mask : Bool) (x y : Parts) → Numbered 9 10 (sum d mask x y
 unfolding sum resultOfSum
 of-sum d mask x y = of-result (omega arith) d mask _ _ _
 
+of-summed : (s : Sense) (d : ℕ) (mask : Bool) (x y : Parts) → Numbered 9 10 (summed s d mask x y)
+unfolding summed
+of-summed s d mask x y = of-sum d mask x (addendOf s y)
+
 numbered-mapped : {A B : Type 0} {lo hi : ℕ} (f : A → B) (r : Answer A) → Numbered lo hi r → Numbered lo hi (mapped f r)
 numbered-mapped f (gives a) given = given
 numbered-mapped f (stops n) (stopped l h) = stopped l h
 
 pub stops-numbered : StopsNumbered
-unfolding toFixed quotientWords sumWords differenceWords difference
+unfolding toFixed quotientWords summedWords
 stops-numbered = record {
   fixed = λ w. choice (ltb (fixedMagnitude (shortParts w)) (2 ^ 31 + shortParts w .sign)) given (stopped (omega arith) (omega arith));
   quotient = λ w mask a b. numbered-mapped (wordsOf w) (quotient (digitsOf w) mask (partsOf w a) (partsOf w b)) (of-quotient (digitsOf w) mask (partsOf w a) (partsOf w b));
-  sum = λ w mask a b. numbered-mapped (wordsOf w) (sum (digitsOf w) mask (partsOf w a) (partsOf w b)) (of-sum (digitsOf w) mask (partsOf w a) (partsOf w b));
-  difference = λ w mask a b. numbered-mapped (wordsOf w) (sum (digitsOf w) mask (partsOf w a) (inverted (partsOf w b))) (of-sum (digitsOf w) mask (partsOf w a) (inverted (partsOf w b)));
+  sum = λ s w mask a b. numbered-mapped (wordsOf w) (summed s (digitsOf w) mask (partsOf w a) (partsOf w b)) (of-summed s (digitsOf w) mask (partsOf w a) (partsOf w b));
 }

@@ -5,11 +5,13 @@ use native.Mathlib.Nat.{ne-of-gt, le-of-eq, lt-of-lt-of-le, lt-of-le-of-lt, mul-
 use native.Mathlib.Omega.{arith}
 use borrow.Author.Tests.{lt-ltb, le-ltb, eq-eqb, ne-eqb}
 use lib.Pow.{pow-add}
+use Rattle.hexfloat.specs.declared.addition.Sense.{Sense}
 use Rattle.hexfloat.specs.declared.word.Parts.{Parts}
 use Rattle.hexfloat.specs.declared.word.Width.{Width}
 use Rattle.hexfloat.specs.declared.word.Width.the-variants.{Short, Long}
 use Rattle.hexfloat.specs.declared.word.Words.{Words}
 use Rattle.hexfloat.specs.Word.{digitsOf, partsOf, wordsOf, shortParts, shortWords, inverted, trueZero}
+use Rattle.hexfloat.specs.Add.{addendOf}
 use Rattle.hexfloat.specs.Normal.{IsCharacteristic, IsFraction}
 use Rattle.hexfloat.specs.Convert.{wordMagnitude, floatParts}
 use Rattle.hexfloat.specs.Operand.{Operand}
@@ -25,8 +27,12 @@ pub parts-fit : (w : Width) (a : Words) → a .high < 2 ^ 32 → a .low < 2 ^ 32
 parts-fit Short a h l = short-fits (a .high) h
 parts-fit Long a h l = record { some = omega arith; most = omega arith; sign = omega arith; characteristic = omega arith; fraction = omega arith }
 
-pub inverted-fits : {d : ℕ} {p : Parts} → Operand d p → Operand d (inverted p)
+inverted-fits : {d : ℕ} {p : Parts} → Operand d p → Operand d (inverted p)
 inverted-fits o = record { some = o .some; most = o .most; sign = omega arith; characteristic = o .characteristic; fraction = o .fraction }
+
+pub addend-fits : (s : Sense) {d : ℕ} {p : Parts} → Operand d p → Operand d (addendOf s p)
+addend-fits Sense.Plus o = o
+addend-fits Sense.Minus o = inverted-fits o
 
 -- six and 14 digits are in the range of the laws
 pub width-fits : (w : Width) → (1 < digitsOf w) × (digitsOf w ≤ 14)

@@ -7,11 +7,12 @@ use native.Mathlib.Nat.{add-comm, add-mul, add-zero, mul-assoc, mul-right-comm, 
 use native.Mathlib.Omega.{arith}
 use lib.Dec.{eqb}
 use lib.Pow.{pow-add}
+use Rattle.hexfloat.specs.declared.addition.Sense.{Sense}
 use Rattle.hexfloat.specs.declared.signed.Signed.{Signed}
 use Rattle.hexfloat.specs.declared.word.Parts.{Parts}
 use Rattle.hexfloat.specs.declared.word.Width.{Width}
 use Rattle.hexfloat.specs.declared.word.Words.{Words}
-use Rattle.hexfloat.specs.Add.{input, intermediateSum, resultOfSum, sumOfInputs, sum, difference, sumWords, differenceWords}
+use Rattle.hexfloat.specs.Add.{input, intermediateSum, resultOfSum, sumOfInputs, addendOf, sum, summed, summedWords}
 use Rattle.hexfloat.specs.Align.{commonCharacteristic, aligned}
 use Rattle.hexfloat.specs.Answer.{Answer, gives, mapped}
 use Rattle.hexfloat.specs.Compare.{positive, negative}
@@ -167,8 +168,8 @@ module _ (d : ℕ) (mask : Bool) where
   unfolding intermediateSum aligned
   opposite x = signed-level _ _ (opposed (x .sign) (aligned 1 (commonCharacteristic x (inverted x)) x))
 
-  less-itself : (x : Parts) → difference d mask x x ≡ gives trueZero
-  unfolding difference sum
+  less-itself : (x : Parts) → summed Sense.Minus d mask x x ≡ gives trueZero
+  unfolding summed sum
   less-itself x = ⊎-elim none some (eq-zero-or-pos (x .fraction))
     where
       none : x .fraction ≡ 0 → sumOfInputs d mask (input x) (input (inverted x)) ≡ gives trueZero
@@ -181,17 +182,20 @@ module _ (d : ℕ) (mask : Bool) where
   unfolding sum
   zero-for x y e = ap (sumOfInputs d mask (input x)) (input-zero y e ∙ sym (input-zero trueZero refl))
 
+addend-fraction : (s : Sense) (y : Parts) → addendOf s y .fraction ≡ y .fraction
+addend-fraction Sense.Plus y = refl
+addend-fraction Sense.Minus y = refl
+
 pub sum-laws : (d : ℕ) (mask : Bool) (x y : Parts) → SumLaws d mask x y
-unfolding difference
+unfolding summed
 sum-laws d mask x y = record {
   interchanged = swapped d mask x y;
   less-itself = less-itself d mask x;
-  zero-second = zero-for d mask x y;
-  zero-subtracted = zero-for d mask x (inverted y);
+  zero-second = λ s e. zero-for d mask x (addendOf s y) (addend-fraction s y ∙ e);
 }
 
 pub word-laws : (w : Width) (mask : Bool) (a b : Words) → WordLaws w mask a b
-unfolding sumWords differenceWords
+unfolding summedWords summed
 word-laws w mask a b = record {
   interchanged = ap (mapped (wordsOf w)) (sum-laws (digitsOf w) mask (partsOf w a) (partsOf w b) .interchanged);
   less-itself = ap (mapped (wordsOf w)) (sum-laws (digitsOf w) mask (partsOf w a) (partsOf w b) .less-itself) ∙ ap gives (no-bits w);

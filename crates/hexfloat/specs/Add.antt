@@ -2,6 +2,7 @@
 use Prim.Native.Nat.{ℕ, _+_, _*_, _^_}
 use mathlib.Core.Bool.{Bool, cond}
 use lib.Dec.{eqb}
+use Rattle.hexfloat.specs.declared.addition.Sense.{Sense}
 use Rattle.hexfloat.specs.declared.signed.Signed.{Signed}
 use Rattle.hexfloat.specs.declared.word.Parts.{Parts}
 use Rattle.hexfloat.specs.declared.word.Width.{Width}
@@ -35,14 +36,14 @@ sumOfInputs d mask x y = resultOfSum d mask (commonCharacteristic x y) (intermed
 unfoldable pub sum : ℕ → Bool → Parts → Parts → Answer Parts
 sum d mask x y = sumOfInputs d mask (input x) (input y)
 
--- 8.26, 8.27: the sign of the second operand is inverted before addition
-unfoldable pub difference : ℕ → Bool → Parts → Parts → Answer Parts
-difference d mask x y = sum d mask x (inverted y)
+-- 8.26, 8.27: for a subtraction the sign of the second operand is inverted before addition
+abbrev pub addendOf : Sense → Parts → Parts
+addendOf Sense.Plus y = y
+addendOf Sense.Minus y = inverted y
 
--- 8.10 short, 8.9 long
-unfoldable pub sumWords : Width → Bool → Words → Words → Answer Words
-sumWords w mask a b = mapped (wordsOf w) (sum (digitsOf w) mask (partsOf w a) (partsOf w b))
+unfoldable pub summed : Sense → ℕ → Bool → Parts → Parts → Answer Parts
+summed s d mask x y = sum d mask x (addendOf s y)
 
--- 8.27 short, 8.26 long
-unfoldable pub differenceWords : Width → Bool → Words → Words → Answer Words
-differenceWords w mask a b = mapped (wordsOf w) (difference (digitsOf w) mask (partsOf w a) (partsOf w b))
+-- 8.10, 8.27 short, 8.9, 8.26 long
+unfoldable pub summedWords : Sense → Width → Bool → Words → Words → Answer Words
+summedWords s w mask a b = mapped (wordsOf w) (summed s (digitsOf w) mask (partsOf w a) (partsOf w b))

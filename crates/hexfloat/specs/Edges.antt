@@ -1,13 +1,14 @@
 -- Edges as statements about the definitions that the contracts cite: the starred ones of document 01, 'Edges', and those of sums.
 use mathlib.Core.Path.{_≡_}
 use mathlib.Core.Bool.{true, false}
+use Rattle.hexfloat.specs.declared.addition.Sense.the-variants.{Plus, Minus}
 use Rattle.hexfloat.specs.declared.word.Width.the-variants.{Short, Long}
 use Rattle.hexfloat.specs.Answer.{gives, stops}
 use Rattle.hexfloat.specs.Word.{shortWords}
 use Rattle.hexfloat.specs.Compare.{comparedWords}
 use Rattle.hexfloat.specs.Convert.{toFixed, toFloat}
 use Rattle.hexfloat.specs.Divide.{quotientWords}
-use Rattle.hexfloat.specs.Add.{sumWords, differenceWords}
+use Rattle.hexfloat.specs.Add.{summedWords}
 
 pub record StarredEdges : Type 0 where
   pub cvfl-one : toFloat 0x00010000 ≡ record { word = 0x41100000; condition = 1 }
@@ -25,13 +26,13 @@ pub record StarredEdges : Type 0 where
 
 -- Sums at the edges of the guard digit, of the common characteristic, of zero operands and of the limits (8.3, 8.9, 8.10, 8.26, 8.27).
 pub record SumEdges : Type 0 where
-  pub guard-digit : differenceWords Short true (shortWords 0x41100000) (shortWords 0x3F10000F) ≡ gives (shortWords 0x40FF0000)
-  pub last-kept : differenceWords Short true (shortWords 0x41100000) (shortWords 0x3B100000) ≡ gives (shortWords 0x40FFFFFF)
-  pub first-dropped : differenceWords Short true (shortWords 0x41100000) (shortWords 0x3A100000) ≡ gives (shortWords 0x41100000)
-  pub no-carry : sumWords Short true (shortWords 0x7FFFFFFF) (shortWords 0x79F00000) ≡ gives (shortWords 0x7FFFFFFF)
-  pub overflow : sumWords Short true (shortWords 0x7FFFFFFF) (shortWords 0x7A100000) ≡ stops 9
-  pub unnormalised : differenceWords Short true (shortWords 0x42000001) (shortWords 0x4000010F) ≡ gives (shortWords 0)
-  pub zero-fraction : sumWords Short true (shortWords 0x7F000000) (shortWords 0x41123456) ≡ gives (shortWords 0x41123456)
-  pub normalised : sumWords Short true (shortWords 0x41012345) (shortWords 0) ≡ gives (shortWords 0x40123450)
-  pub underflow : sumWords Short true (shortWords 0x00000001) (shortWords 0) ≡ stops 10
-  pub underflow-masked : sumWords Short false (shortWords 0x80000001) (shortWords 0) ≡ gives (shortWords 0)
+  pub guard-digit : summedWords Minus Short true (shortWords 0x41100000) (shortWords 0x3F10000F) ≡ gives (shortWords 0x40FF0000)
+  pub last-kept : summedWords Minus Short true (shortWords 0x41100000) (shortWords 0x3B100000) ≡ gives (shortWords 0x40FFFFFF)
+  pub first-dropped : summedWords Minus Short true (shortWords 0x41100000) (shortWords 0x3A100000) ≡ gives (shortWords 0x41100000)
+  pub no-carry : summedWords Plus Short true (shortWords 0x7FFFFFFF) (shortWords 0x79F00000) ≡ gives (shortWords 0x7FFFFFFF)
+  pub overflow : summedWords Plus Short true (shortWords 0x7FFFFFFF) (shortWords 0x7A100000) ≡ stops 9
+  pub unnormalised : summedWords Minus Short true (shortWords 0x42000001) (shortWords 0x4000010F) ≡ gives (shortWords 0)
+  pub zero-fraction : summedWords Plus Short true (shortWords 0x7F000000) (shortWords 0x41123456) ≡ gives (shortWords 0x41123456)
+  pub normalised : summedWords Plus Short true (shortWords 0x41012345) (shortWords 0) ≡ gives (shortWords 0x40123450)
+  pub underflow : summedWords Plus Short true (shortWords 0x00000001) (shortWords 0) ≡ stops 10
+  pub underflow-masked : summedWords Plus Short false (shortWords 0x80000001) (shortWords 0) ≡ gives (shortWords 0)

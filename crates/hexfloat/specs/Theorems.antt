@@ -3,6 +3,7 @@ use mathlib.Core.Path.{_≡_}
 use mathlib.Core.Bool.{Bool}
 use mathlib.Core.Logic.{_⊎_}
 use Prim.Native.Nat.{ℕ, suc, _+_, _-_, _*_, _/_, _%_, _^_, _≤_, _<_}
+use Rattle.hexfloat.specs.declared.addition.Sense.{Sense}
 use Rattle.hexfloat.specs.declared.signed.Signed.{Signed}
 use Rattle.hexfloat.specs.declared.word.Coded.{Coded}
 use Rattle.hexfloat.specs.declared.word.Parts.{Parts}
@@ -18,7 +19,7 @@ use Rattle.hexfloat.specs.Result.{resultOf, underflow}
 use Rattle.hexfloat.specs.Divide.{quotient, quotientWords}
 use Rattle.hexfloat.specs.Align.{commonCharacteristic, aligned, IsAligned}
 use Rattle.hexfloat.specs.Signed.{signed}
-use Rattle.hexfloat.specs.Add.{input, intermediateSum, sum, difference, sumWords, differenceWords}
+use Rattle.hexfloat.specs.Add.{input, intermediateSum, sum, summed, summedWords}
 
 -- For whole numbers a and b above 0 there is one characteristic of a / b, 0 or more or below 0, and to it one fraction of d digits.
 pub record OneNumber (d a b : ℕ) : Type 0 where
@@ -75,14 +76,13 @@ pub record ExactSum (d : ℕ) (mask : Bool) (x y : Parts) : Type 0 where
 -- replaced by true zero.
 pub record SumLaws (d : ℕ) (mask : Bool) (x y : Parts) : Type 0 where
   pub interchanged : sum d mask x y ≡ sum d mask y x
-  pub less-itself : difference d mask x x ≡ gives trueZero
-  pub zero-second : y .fraction ≡ 0 → sum d mask x y ≡ sum d mask x trueZero
-  pub zero-subtracted : y .fraction ≡ 0 → difference d mask x y ≡ sum d mask x trueZero
+  pub less-itself : summed Sense.Minus d mask x x ≡ gives trueZero
+  pub zero-second : (s : Sense) → y .fraction ≡ 0 → summed s d mask x y ≡ sum d mask x trueZero
 
 -- the same of words, short and long
 pub record WordLaws (w : Width) (mask : Bool) (a b : Words) : Type 0 where
-  pub interchanged : sumWords w mask a b ≡ sumWords w mask b a
-  pub less-itself : differenceWords w mask a a ≡ gives (shortWords 0)
+  pub interchanged : summedWords Sense.Plus w mask a b ≡ summedWords Sense.Plus w mask b a
+  pub less-itself : summedWords Sense.Minus w mask a a ≡ gives (shortWords 0)
 
 -- CVFX: the magnitude is the exact value times 65,536 cut toward zero, and no other number is.
 pub record ExactFixed (p : Parts) : Type 0 where
@@ -115,5 +115,4 @@ pub data Numbered {A : Type 0} (lo hi : ℕ) : Answer A → Type 0 where
 pub record StopsNumbered : Type 0 where
   pub fixed : (w : ℕ) → Numbered 11 11 (toFixed w)
   pub quotient : (w : Width) (mask : Bool) (a b : Words) → Numbered 8 10 (quotientWords w mask a b)
-  pub sum : (w : Width) (mask : Bool) (a b : Words) → Numbered 9 10 (sumWords w mask a b)
-  pub difference : (w : Width) (mask : Bool) (a b : Words) → Numbered 9 10 (differenceWords w mask a b)
+  pub sum : (s : Sense) (w : Width) (mask : Bool) (a b : Words) → Numbered 9 10 (summedWords s w mask a b)

@@ -10,7 +10,7 @@ use crate::word::Width;
 use crate::word::Words;
 ghost use mathlib.Core.Path.{_≡_};
 ghost use Prim.Native.Nat.{_+_, _*_, _<_, _≤_, _^_};
-ghost use Rattle.hexfloat.specs.Add.{input, resultOfSum, sum, sumWords, differenceWords};
+ghost use Rattle.hexfloat.specs.Add.{addendOf, input, resultOfSum, sum, summedWords};
 ghost use Rattle.hexfloat.specs.Align.{aligned, commonCharacteristic};
 ghost use Rattle.hexfloat.specs.Answer.{mapped};
 ghost use Rattle.hexfloat.specs.Operand.{Operand};
@@ -19,28 +19,35 @@ ghost use Rattle.hexfloat.specs.Word.{digitsOf, wordsOf, inverted};
 
 const GUARD_DIGITS: u32 = 1;
 
-pub fn add(width: Width, mask: bool, a: Words, b: Words) -> Result
-    ensures { λ r. ⌜ saysResult r ≡ sumWords width mask a b ⌝ }
-{
-    let x = crate::word::parts_of(width, a);
-    let y = crate::word::parts_of(width, b);
-    add_parts(width, mask, x, y)
+// Whether the second operand is added or subtracted.
+pub enum Sense {
+    Plus,
+    Minus,
 }
 
-pub fn subtract(width: Width, mask: bool, a: Words, b: Words) -> Result
-    ensures { λ r. ⌜ saysResult r ≡ differenceWords width mask a b ⌝ }
+pub fn sum(sense: Sense, width: Width, mask: bool, a: Words, b: Words) -> Result
+    ensures { λ r. ⌜ saysResult r ≡ summedWords sense width mask a b ⌝ }
 {
     let x = crate::word::parts_of(width, a);
     let y = crate::word::parts_of(width, b);
-    add_parts(width, mask, x, invert(y))
+    add_parts(width, mask, x, addend(sense, y))
+}
+
+// The second operand, with its sign inverted for a subtraction.
+fn addend(sense: Sense, p: Parts) -> Parts
+    ensures { λ r. ⌜ r ≡ addendOf sense p ⌝ }
+{
+    match sense {
+        Sense::Plus => p,
+        Sense::Minus => invert(p),
+    }
 }
 
 fn invert(p: Parts) -> Parts
-    requires { ⌜ p .sign ≤ 1 ⌝ }
     ensures { λ r. ⌜ r ≡ inverted p ⌝ }
 {
     Parts {
-        sign: 1 - p.sign,
+        sign: if p.sign == 0 { 1 } else { 0 },
         characteristic: p.characteristic,
         fraction: p.fraction,
     }

@@ -13,8 +13,8 @@ mod result;
 mod signed;
 mod word;
 
-pub use addition::add;
-pub use addition::subtract;
+pub use addition::Sense;
+pub use addition::sum;
 pub use comparison::compare;
 pub use condition_code::complement;
 pub use condition_code::condition;

@@ -57,8 +57,7 @@ performed-by Verb.SetMask w o g a b = tt
 performed-by Verb.Jump w o g a b = tt
 performed-by Verb.CountDown w o g a b = tt
 performed-by Verb.Halt w o g a b = number 12 (omega arith) (omega arith)
-performed-by Verb.Add w o g a b = result-by 9 (omega arith) (loaded w (g .status) (o .r1)) (stops-numbered .sum w (eqb (g .status .mask) 1) (floatOperand w (g .float) (o .r1)) b)
-performed-by Verb.Subtract w o g a b = result-by 9 (omega arith) (loaded w (g .status) (o .r1)) (stops-numbered .difference w (eqb (g .status .mask) 1) (floatOperand w (g .float) (o .r1)) b)
+performed-by (Verb.Sum sense) w o g a b = result-by 9 (omega arith) (loaded w (g .status) (o .r1)) (stops-numbered .sum sense w (eqb (g .status .mask) 1) (floatOperand w (g .float) (o .r1)) b)
 
 judged-by : (o : Order) (g : Registers) (used : ℕ) (p m : List ℕ) (journal : ℕ) (op : Operation) → StopsBy StepNumber (judged o g used p m journal op)
 unfolding judged effectOf

@@ -29,8 +29,7 @@ maskFits Verb.SetMask r = leb r 1
 maskFits Verb.Jump r = true
 maskFits Verb.CountDown r = true
 maskFits Verb.Halt r = true
-maskFits Verb.Add r = true
-maskFits Verb.Subtract r = true
+maskFits (Verb.Sum s) r = true
 
 -- no register above 7; what is stored is a part of S, which has at most four halfwords; a mask is 0 or 1
 unfoldable fitting : Operation → Bool

@@ -5,10 +5,11 @@ use mathlib.Core.Path.{_≡_}
 use mathlib.Core.List.{List}
 use mathlib.Core.Bool.{true}
 use lib.Dec.{eqb}
+use Rattle.hexfloat.specs.declared.addition.Sense.{Sense}
 use Rattle.hexfloat.specs.declared.word.Width.{Width}
 use Rattle.hexfloat.specs.declared.word.Words.{Words}
 use Rattle.hexfloat.specs.declared.word.Coded.{Coded}
-use Rattle.hexfloat.specs.Add.{sumWords, differenceWords}
+use Rattle.hexfloat.specs.Add.{summedWords}
 use Rattle.hexfloat.specs.Answer.{Answer, gives, stops, mapped}
 use Rattle.hexfloat.specs.Condition.{operandCondition, generalCondition, complement}
 use Rattle.hexfloat.specs.Compare.{comparedWords}
@@ -64,11 +65,8 @@ resultInto w s r a = keptCondition s (floatChange w r a)
 abbrev pub divided : Width → Status → ℕ → Words → Words → Answer Effect
 divided w s r a b = mapped (resultInto w s r) (quotientWords w (eqb (s .mask) 1) a b)
 
-abbrev pub added : Width → Status → ℕ → Words → Words → Answer Effect
-added w s r a b = mapped (loaded w s r) (sumWords w (eqb (s .mask) 1) a b)
-
-abbrev pub subtracted : Width → Status → ℕ → Words → Words → Answer Effect
-subtracted w s r a b = mapped (loaded w s r) (differenceWords w (eqb (s .mask) 1) a b)
+abbrev pub summedInto : Sense → Width → Status → ℕ → Words → Words → Answer Effect
+summedInto sense w s r a b = mapped (loaded w s r) (summedWords sense w (eqb (s .mask) 1) a b)
 
 -- L
 abbrev pub loadedGeneral : Status → ℕ → ℕ → Effect
@@ -93,8 +91,7 @@ performed Verb.SetMask w o g a b = gives (masked (g .status) (o .r2))
 performed Verb.Jump w o g a b = gives (jumped (g .status) (o .r1) (o .at))
 performed Verb.CountDown w o g a b = gives (countedDown (g .status) (o .r1) (generalAt (g .general) (o .r1)) (o .at))
 performed Verb.Halt w o g a b = stops 12
-performed Verb.Add w o g a b = added w (g .status) (o .r1) (floatOperand w (g .float) (o .r1)) b
-performed Verb.Subtract w o g a b = subtracted w (g .status) (o .r1) (floatOperand w (g .float) (o .r1)) b
+performed (Verb.Sum sense) w o g a b = summedInto sense w (g .status) (o .r1) (floatOperand w (g .float) (o .r1)) b
 
 unfoldable pub effectOf : Operation → Order → Registers → List ℕ → Answer Effect
 effectOf op o g m = performed (op .verb) (op .width) o g (addressOf o (g .general)) (secondOperand (op .place) (op .width) o (g .float) (g .general) m)

@@ -15,6 +15,7 @@ use crate::verdict::Effect;
 use crate::verdict::Verdict;
 use hexfloat::Fixed;
 use hexfloat::Result;
+use hexfloat::Sense;
 use hexfloat::Width;
 use hexfloat::Words;
 use orders::Operation;
@@ -25,7 +26,6 @@ ghost use Prim.Native.Nat.{_+_, _<_, _≤_};
 ghost use lib.ListN.{length};
 ghost use Rattle.hexfloat.specs.Answer.{gives, mapped};
 ghost use Rattle.hexfloat.specs.Convert.{toFixed};
-ghost use Rattle.hexfloat.specs.Result.{saysResult};
 ghost use Rattle.machine.specs.Effect.{
   nextEffect,
   loaded,
@@ -33,8 +33,7 @@ ghost use Rattle.machine.specs.Effect.{
   comparedWith,
   fixedInto,
   divided,
-  added,
-  subtracted,
+  summedInto,
   loadedGeneral,
   masked,
   performed,
@@ -105,26 +104,12 @@ fn divide(width: Width, s: Status, r: u32, a: Words, b: Words) -> Verdict
     }
 }
 
-fn add(width: Width, s: Status, r: u32, a: Words, b: Words) -> Verdict
+fn sum(sense: Sense, width: Width, s: Status, r: u32, a: Words, b: Words) -> Verdict
     requires { ⌜ s .pointer + 1 < 65536 ⌝ }
-    ensures { λ v. ⌜ says v ≡ added width s r a b ⌝ }
+    ensures { λ v. ⌜ says v ≡ summedInto sense width s r a b ⌝ }
 {
-    load_result(width, s, r, hexfloat::add(width, s.mask == 1, a, b))
-}
-
-fn subtract(width: Width, s: Status, r: u32, a: Words, b: Words) -> Verdict
-    requires { ⌜ s .pointer + 1 < 65536 ⌝ }
-    ensures { λ v. ⌜ says v ≡ subtracted width s r a b ⌝ }
-{
-    load_result(width, s, r, hexfloat::subtract(width, s.mask == 1, a, b))
-}
-
-// A result that sets the condition code.
-fn load_result(width: Width, s: Status, r: u32, result: Result) -> Verdict
-    requires { ⌜ s .pointer + 1 < 65536 ⌝ }
-    ensures { λ v. ⌜ says v ≡ mapped (loaded width s r) (saysResult result) ⌝ }
-{
-    match result {
+    let q = hexfloat::sum(sense, width, s.mask == 1, a, b);
+    match q {
         Result::Number(a) => load(width, s, r, a),
         Result::ZeroDivisor => Verdict::Refused(Stop::ZeroDivisor),
         Result::Overflow => Verdict::Refused(Stop::Overflow),
@@ -193,8 +178,10 @@ fn perform(
         Verb::Jump => jump(status, r, o.at),
         Verb::CountDown => count_down(status, r, general_at(general, r), o.at),
         Verb::Halt => Verdict::Refused(Stop::Halted),
-        Verb::Add => add(width, status, r, float_operand(width, float, r), b),
-        Verb::Subtract => subtract(width, status, r, float_operand(width, float, r), b),
+        Verb::Sum(sense) => {
+            let a = float_operand(width, float, r);
+            sum(sense, width, status, r, a, b)
+        }
     }
 }
 

@@ -4,6 +4,7 @@ use mathlib.Core.List.{List, [], _∷_}
 use mathlib.Core.Bool.{Bool, true, false, cond, _&&_}
 use lib.ListN.{getD}
 use lib.Dec.{eqb, leb}
+use Rattle.hexfloat.specs.declared.addition.Sense.{Sense}
 use Rattle.hexfloat.specs.declared.word.Width.{Width}
 use Rattle.hexfloat.specs.Answer.{Answer, gives, stops, provided, andThen}
 use Rattle.orders.specs.declared.order.Order.{Order}
@@ -68,14 +69,14 @@ rows =
     ∷ onCells Verb.Jump 7 0 65535
     ∷ onCells Verb.CountDown 7 0 65535
     ∷ onCells Verb.Halt 0 0 0
-    ∷ onFloat Verb.Add Width.Short
-    ∷ onStorage Verb.Add Width.Short
-    ∷ onFloat Verb.Subtract Width.Short
-    ∷ onStorage Verb.Subtract Width.Short
-    ∷ onFloat Verb.Add Width.Long
-    ∷ onStorage Verb.Add Width.Long
-    ∷ onFloat Verb.Subtract Width.Long
-    ∷ onStorage Verb.Subtract Width.Long
+    ∷ onFloat (Verb.Sum Sense.Plus) Width.Short
+    ∷ onStorage (Verb.Sum Sense.Plus) Width.Short
+    ∷ onFloat (Verb.Sum Sense.Minus) Width.Short
+    ∷ onStorage (Verb.Sum Sense.Minus) Width.Short
+    ∷ onFloat (Verb.Sum Sense.Plus) Width.Long
+    ∷ onStorage (Verb.Sum Sense.Plus) Width.Long
+    ∷ onFloat (Verb.Sum Sense.Minus) Width.Long
+    ∷ onStorage (Verb.Sum Sense.Minus) Width.Long
     ∷ []
 
 -- the row of code n among some rows, the first of which has the code k; an unknown code is a 5
@@ -129,8 +130,7 @@ storedAs Verb.SetMask w = 0
 storedAs Verb.Jump w = 0
 storedAs Verb.CountDown w = 0
 storedAs Verb.Halt w = 0
-storedAs Verb.Add w = 0
-storedAs Verb.Subtract w = 0
+storedAs (Verb.Sum s) w = 0
 
 abbrev pub storedOf : Operation → ℕ
 storedOf op = storedAs (op .verb) (op .width)
@@ -149,5 +149,4 @@ isHalt Verb.SetMask = false
 isHalt Verb.Jump = false
 isHalt Verb.CountDown = false
 isHalt Verb.Halt = true
-isHalt Verb.Add = false
-isHalt Verb.Subtract = false
+isHalt (Verb.Sum s) = false

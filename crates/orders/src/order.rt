@@ -1,4 +1,5 @@
 // The orders: document 01's table, and check 5.
+use hexfloat::Sense;
 use hexfloat::Width;
 ghost use mathlib.Core.Path.{_≡_};
 ghost use Rattle.hexfloat.specs.Answer.{gives};
@@ -27,8 +28,7 @@ pub enum Verb {
     Jump,
     CountDown,
     Halt,
-    Add,
-    Subtract,
+    Sum(Sense),
 }
 
 // Where its second operand is.
@@ -118,14 +118,14 @@ fn look_up(code: u16) -> Legality
         20 => on_cells(Verb::Jump, 7, 0, 65535), // JC
         21 => on_cells(Verb::CountDown, 7, 0, 65535), // JN
         22 => on_cells(Verb::Halt, 0, 0, 0), // HALT
-        23 => on_float(Verb::Add, Width::Short), // AER
-        24 => on_storage(Verb::Add, Width::Short), // AE
-        25 => on_float(Verb::Subtract, Width::Short), // SER
-        26 => on_storage(Verb::Subtract, Width::Short), // SE
-        27 => on_float(Verb::Add, Width::Long), // AEDR
-        28 => on_storage(Verb::Add, Width::Long), // AED
-        29 => on_float(Verb::Subtract, Width::Long), // SEDR
-        30 => on_storage(Verb::Subtract, Width::Long), // SED
+        23 => on_float(Verb::Sum(Sense::Plus), Width::Short), // AER
+        24 => on_storage(Verb::Sum(Sense::Plus), Width::Short), // AE
+        25 => on_float(Verb::Sum(Sense::Minus), Width::Short), // SER
+        26 => on_storage(Verb::Sum(Sense::Minus), Width::Short), // SE
+        27 => on_float(Verb::Sum(Sense::Plus), Width::Long), // AEDR
+        28 => on_storage(Verb::Sum(Sense::Plus), Width::Long), // AED
+        29 => on_float(Verb::Sum(Sense::Minus), Width::Long), // SEDR
+        30 => on_storage(Verb::Sum(Sense::Minus), Width::Long), // SED
         _ => Legality::Illegal,
     }
 }
@@ -195,8 +195,7 @@ pub fn stored(op: Operation) -> u32
         Verb::Jump => 0,
         Verb::CountDown => 0,
         Verb::Halt => 0,
-        Verb::Add => 0,
-        Verb::Subtract => 0,
+        Verb::Sum(sense) => 0,
     }
 }
 
@@ -217,7 +216,6 @@ pub fn halts(verb: Verb) -> bool
         Verb::Jump => false,
         Verb::CountDown => false,
         Verb::Halt => true,
-        Verb::Add => false,
-        Verb::Subtract => false,
+        Verb::Sum(sense) => false,
     }
 }

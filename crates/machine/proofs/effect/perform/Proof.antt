@@ -107,23 +107,14 @@ count-down-requires c κs = search needs
 enum-told-13 : tie.Need-enum-told-13
 enum-told-13 c = search needs
 
-enum-told-14 : tie.Need-enum-told-14
-enum-told-14 c = search needs
+enum-known-verb : tie.Need-enum-known-verb
+enum-known-verb c = search needs
 
 float-operand-requires-4 : tie.Need-float-operand-requires-4
 float-operand-requires-4 c κs = search needs
 
-add-requires : tie.Need-add-requires
-add-requires c κs = search needs
-
-enum-told-15 : tie.Need-enum-told-15
-enum-told-15 c = search needs
-
-float-operand-requires-5 : tie.Need-float-operand-requires-5
-float-operand-requires-5 c κs = search needs
-
-subtract-requires : tie.Need-subtract-requires
-subtract-requires c κs = search needs
+sum-requires : tie.Need-sum-requires
+sum-requires c κs = search needs
 
 returns : tie.Need-returns
 unfolding performed
@@ -185,11 +176,7 @@ returns-13 c = rw (c .enum-told13 .given .1)
 
 returns-14 : tie.Need-returns-14
 unfolding performed
-returns-14 c = rw (c .before .before .enum-told14 .given .1, c .add .ensures, c .before .float-operand4 .ensures)
-
-returns-15 : tie.Need-returns-15
-unfolding performed
-returns-15 c = rw (c .before .before .enum-told15 .given .1, c .subtract .ensures, c .before .float-operand5 .ensures)
+returns-14 c = rw (c .before .before .before .verb .given .1, c .sum .ensures, c .before .float-operand4 .ensures)
 
 pub perform-spec : {M : Type 1} → statement M
 perform-spec =
@@ -229,12 +216,9 @@ perform-spec =
     general-at-requires-2
     count-down-requires
     enum-told-13
-    enum-told-14
+    enum-known-verb
     float-operand-requires-4
-    add-requires
-    enum-told-15
-    float-operand-requires-5
-    subtract-requires
+    sum-requires
     returns
     returns-2
     returns-3
@@ -248,5 +232,4 @@ perform-spec =
     returns-11
     returns-12
     returns-13
-    returns-14
-    returns-15)
+    returns-14)

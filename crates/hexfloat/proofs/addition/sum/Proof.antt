@@ -1,0 +1,44 @@
+-- `sum` meets its contract: a word's parts are in range, and so is the addend.
+use mathlib.Core.Path.{_≡_, ap, ap₂, _∙_, subst⁻¹}
+use native.Mathlib.Omega.{arith}
+use borrow.Author.Needs.{needs}
+use Rattle.hexfloat.specs.declared.word.Parts.{Parts}
+use Rattle.hexfloat.specs.Add.{addendOf, sum, summed, summedWords}
+use Rattle.hexfloat.specs.Answer.{mapped}
+use Rattle.hexfloat.specs.Operand.{Operand}
+use Rattle.hexfloat.specs.Word.{digitsOf, wordsOf}
+use Rattle.hexfloat.proofs.Fits.{parts-fit, addend-fits}
+use Rattle.hexfloat.proofs.addition.sum.Statement.{statement}
+use Rattle.hexfloat.proofs.addition.sum.Tie as tie
+
+parts-of-requires : tie.Need-parts-of-requires
+parts-of-requires c κs = search needs
+
+parts-of-requires-2 : tie.Need-parts-of-requires-2
+parts-of-requires-2 c κs = search needs
+
+addend-requires : tie.Need-addend-requires
+addend-requires c κs = search needs
+
+-- with the parts of both operands
+module _ (c : tie.After-parts-of2) where
+  fits-x : Operand (digitsOf (c .before .before .args .width)) (c .before .parts-of .result)
+  fits-x = subst⁻¹ (Operand (digitsOf (c .before .before .args .width))) (c .before .parts-of .ensures) (parts-fit (c .before .before .args .width) (c .before .before .args .a) (omega arith) (omega arith))
+
+  fits-y : Operand (digitsOf (c .before .before .args .width)) (c .parts-of2 .result)
+  fits-y = subst⁻¹ (Operand (digitsOf (c .before .before .args .width))) (c .parts-of2 .ensures) (parts-fit (c .before .before .args .width) (c .before .before .args .b) (omega arith) (omega arith))
+
+add-parts-requires : tie.Need-add-parts-requires
+add-parts-requires c κs = (fits-x (c .before), subst⁻¹ (Operand (digitsOf (c .before .before .before .args .width))) (c .addend .ensures) (addend-fits (c .before .before .before .args .sense) (fits-y (c .before))))
+
+returns : tie.Need-returns
+unfolding summedWords summed
+returns c =
+    let s = c .before .before .before .before in
+    c .add-parts .ensures
+    ∙ ap₂ (λ (p q : Parts). mapped (wordsOf (s .args .width)) (sum (digitsOf (s .args .width)) (s .args .mask) p q))
+    (c .before .before .before .parts-of .ensures) (c .before .addend .ensures ∙ ap (addendOf (s .args .sense)) (c .before .before .parts-of2 .ensures))
+
+pub sum-spec : {M : Type 1} → statement M
+sum-spec =
+    tie.close (tie.spec parts-of-requires parts-of-requires-2 addend-requires add-parts-requires returns)
