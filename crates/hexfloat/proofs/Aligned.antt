@@ -1,5 +1,5 @@
 -- Laws of alignment: an aligned fraction is the exact magnitude cut to the digits that are kept, over the guard digits and the digits d.
-use mathlib.Core.Path.{_≡_, sym, ap, _∙_}
+use mathlib.Core.Path.{_≡_, refl, sym, ap, _∙_}
 use Prim.Native.Nat.{ℕ, suc, _+_, _-_, _*_, _/_, _%_, _^_, _≤_, _<_}
 use native.Mathlib.Nat.{le-trans, le-of-eq, lt-of-lt-of-le, lt-of-le-of-lt, mul-le-mul-right, mul-lt-mul-of-pos-right, mul-assoc, mul-right-comm, div-eq-of-lt, div-le-self, div-add-mod'}
 use native.Mathlib.Omega.{arith}
@@ -12,37 +12,38 @@ use Rattle.hexfloat.proofs.Digits.{pos}
 use Rattle.hexfloat.proofs.Keys.{Trichotomy, less, same, more, trichotomy}
 use Rattle.hexfloat.proofs.Ratio.{cut-is, cut-unique}
 
--- the common characteristic is one of the two, and no smaller than the other
+-- the common characteristic is the larger of the two
 module _ (x y : Parts) where
-  pub common-left : x .characteristic ≤ commonCharacteristic x y
+  pub common-second : x .characteristic < y .characteristic → commonCharacteristic x y ≡ y .characteristic
   unfolding commonCharacteristic
-  common-left = go (trichotomy (x .characteristic) (y .characteristic))
-    where
-      go : Trichotomy (x .characteristic) (y .characteristic) → x .characteristic ≤ commonCharacteristic x y
-      go (less h) = rw (lt-ltb (x .characteristic) (y .characteristic) h) (omega arith)
-      go (same e) = rw (le-ltb (x .characteristic) (y .characteristic) (omega arith)) (omega arith)
-      go (more h) = rw (le-ltb (x .characteristic) (y .characteristic) (omega arith)) (omega arith)
+  common-second h = rw (lt-ltb (x .characteristic) (y .characteristic) h)
 
-  pub common-swapped : commonCharacteristic x y ≡ commonCharacteristic y x
+  pub common-first : y .characteristic ≤ x .characteristic → commonCharacteristic x y ≡ x .characteristic
   unfolding commonCharacteristic
-  common-swapped = go (trichotomy (x .characteristic) (y .characteristic))
+  common-first h = rw (le-ltb (x .characteristic) (y .characteristic) h)
+
+  -- so what holds of the second, where it is larger, and else of the first holds of it
+  common-by : (P : ℕ → Type 0) → (x .characteristic < y .characteristic → P (y .characteristic)) → (y .characteristic ≤ x .characteristic → P (x .characteristic)) → P (commonCharacteristic x y)
+  common-by P second first = go (trichotomy (x .characteristic) (y .characteristic))
     where
-      go : Trichotomy (x .characteristic) (y .characteristic) → commonCharacteristic x y ≡ commonCharacteristic y x
-      go (less h) = rw (lt-ltb (x .characteristic) (y .characteristic) h, le-ltb (y .characteristic) (x .characteristic) (omega arith))
-      go (same e) = rw (le-ltb (x .characteristic) (y .characteristic) (omega arith), le-ltb (y .characteristic) (x .characteristic) (omega arith)) e
-      go (more h) = rw (le-ltb (x .characteristic) (y .characteristic) (omega arith), lt-ltb (y .characteristic) (x .characteristic) h)
+      go : Trichotomy (x .characteristic) (y .characteristic) → P (commonCharacteristic x y)
+      go (less h) = rw (common-second h) (second h)
+      go (same e) = rw (common-first (omega arith)) (first (omega arith))
+      go (more h) = rw (common-first (omega arith)) (first (omega arith))
+
+pub common-left : (x y : Parts) → x .characteristic ≤ commonCharacteristic x y
+common-left x y = common-by x y (λ k. x .characteristic ≤ k) (λ h. omega arith) (λ h. omega arith)
+
+pub common-swapped : (x y : Parts) → commonCharacteristic x y ≡ commonCharacteristic y x
+common-swapped x y =
+    common-by x y (λ k. k ≡ commonCharacteristic y x) (λ h. sym (common-first y x (omega arith)))
+    (λ h. common-by y x (λ k. x .characteristic ≡ k) (λ l. refl) (λ l. omega arith))
 
 pub common-right : (x y : Parts) → y .characteristic ≤ commonCharacteristic x y
 common-right x y = rw (common-swapped x y) (common-left y x)
 
 pub common-most : {k : ℕ} (x y : Parts) → x .characteristic ≤ k → y .characteristic ≤ k → commonCharacteristic x y ≤ k
-unfolding commonCharacteristic
-common-most {k} x y hx hy = go (trichotomy (x .characteristic) (y .characteristic))
-  where
-    go : Trichotomy (x .characteristic) (y .characteristic) → commonCharacteristic x y ≤ k
-    go (less h) = rw (lt-ltb (x .characteristic) (y .characteristic) h) hy
-    go (same e) = rw (le-ltb (x .characteristic) (y .characteristic) (omega arith)) hx
-    go (more h) = rw (le-ltb (x .characteristic) (y .characteristic) (omega arith)) hx
+common-most {k} x y hx hy = common-by x y (λ c. c ≤ k) (λ h. hy) (λ h. hx)
 
 module _ (g c : ℕ) (p : Parts) where
   -- all digits are moved out

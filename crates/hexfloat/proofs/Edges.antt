@@ -9,7 +9,7 @@ use Rattle.hexfloat.specs.Result.{resultOf}
 use Rattle.hexfloat.specs.Word.{magnitude}
 use Rattle.hexfloat.specs.Align.{commonCharacteristic, aligned}
 use Rattle.hexfloat.specs.Signed.{signed}
-use Rattle.hexfloat.specs.Add.{input, intermediateSum, resultOfSum, sum, summed, summedWords}
+use Rattle.hexfloat.specs.Add.{input, intermediateSum, resultOfSum, addendOf, sum, summed, summedWords}
 use Rattle.hexfloat.specs.Edges.{StarredEdges, SumEdges}
 
 pub starred-edges : StarredEdges
@@ -30,7 +30,7 @@ starred-edges = record {
 }
 
 pub sum-edges : SumEdges
-unfolding summedWords summed sum input intermediateSum resultOfSum resultOf commonCharacteristic aligned signed characteristicOf fractionOf digits digitsIn
+unfolding summedWords summed addendOf sum input intermediateSum resultOfSum resultOf commonCharacteristic aligned signed characteristicOf fractionOf digits digitsIn
 sum-edges = record {
   guard-digit = refl;
   last-kept = refl;

@@ -31,6 +31,7 @@ inverted-fits : {d : ℕ} {p : Parts} → Operand d p → Operand d (inverted p)
 inverted-fits o = record { some = o .some; most = o .most; sign = omega arith; characteristic = o .characteristic; fraction = o .fraction }
 
 pub addend-fits : (s : Sense) {d : ℕ} {p : Parts} → Operand d p → Operand d (addendOf s p)
+unfolding addendOf
 addend-fits Sense.Plus o = o
 addend-fits Sense.Minus o = inverted-fits o
 

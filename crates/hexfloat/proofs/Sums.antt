@@ -169,7 +169,7 @@ module _ (d : ℕ) (mask : Bool) where
   opposite x = signed-level _ _ (opposed (x .sign) (aligned 1 (commonCharacteristic x (inverted x)) x))
 
   less-itself : (x : Parts) → summed Sense.Minus d mask x x ≡ gives trueZero
-  unfolding summed sum
+  unfolding summed sum addendOf
   less-itself x = ⊎-elim none some (eq-zero-or-pos (x .fraction))
     where
       none : x .fraction ≡ 0 → sumOfInputs d mask (input x) (input (inverted x)) ≡ gives trueZero
@@ -183,6 +183,7 @@ module _ (d : ℕ) (mask : Bool) where
   zero-for x y e = ap (sumOfInputs d mask (input x)) (input-zero y e ∙ sym (input-zero trueZero refl))
 
 addend-fraction : (s : Sense) (y : Parts) → addendOf s y .fraction ≡ y .fraction
+unfolding addendOf
 addend-fraction Sense.Plus y = refl
 addend-fraction Sense.Minus y = refl
 
@@ -195,7 +196,7 @@ sum-laws d mask x y = record {
 }
 
 pub word-laws : (w : Width) (mask : Bool) (a b : Words) → WordLaws w mask a b
-unfolding summedWords summed
+unfolding summedWords summed addendOf
 word-laws w mask a b = record {
   interchanged = ap (mapped (wordsOf w)) (sum-laws (digitsOf w) mask (partsOf w a) (partsOf w b) .interchanged);
   less-itself = ap (mapped (wordsOf w)) (sum-laws (digitsOf w) mask (partsOf w a) (partsOf w b) .less-itself) ∙ ap gives (no-bits w);

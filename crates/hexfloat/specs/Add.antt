@@ -37,7 +37,7 @@ unfoldable pub sum : ℕ → Bool → Parts → Parts → Answer Parts
 sum d mask x y = sumOfInputs d mask (input x) (input y)
 
 -- 8.26, 8.27: for a subtraction the sign of the second operand is inverted before addition
-abbrev pub addendOf : Sense → Parts → Parts
+unfoldable pub addendOf : Sense → Parts → Parts
 addendOf Sense.Plus y = y
 addendOf Sense.Minus y = inverted y
 

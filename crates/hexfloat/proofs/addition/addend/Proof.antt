@@ -1,5 +1,6 @@
 -- `addend` meets its contract: each sense, one by one.
 use borrow.Author.Needs.{needs}
+use Rattle.hexfloat.specs.Add.{addendOf}
 use Rattle.hexfloat.proofs.addition.addend.Statement.{statement}
 use Rattle.hexfloat.proofs.addition.addend.Tie as tie
 
@@ -13,9 +14,11 @@ invert-requires : tie.Need-invert-requires
 invert-requires c κs = search needs
 
 returns : tie.Need-returns
+unfolding addendOf
 returns c = rw (c .enum-told .given .1)
 
 returns-2 : tie.Need-returns-2
+unfolding addendOf
 returns-2 c = rw (c .invert .ensures, c .before .enum-told2 .given .1)
 
 pub addend-spec : {M : Type 1} → statement M

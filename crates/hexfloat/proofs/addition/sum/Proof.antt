@@ -1,12 +1,13 @@
 -- `sum` meets its contract: a word's parts are in range, and so is the addend.
-use mathlib.Core.Path.{_≡_, ap, ap₂, _∙_, subst⁻¹}
+use mathlib.Core.Path.{_≡_, subst⁻¹}
+use Prim.Native.Nat.{ℕ}
 use native.Mathlib.Omega.{arith}
 use borrow.Author.Needs.{needs}
+use Rattle.hexfloat.specs.declared.addition.Sense.{Sense}
 use Rattle.hexfloat.specs.declared.word.Parts.{Parts}
-use Rattle.hexfloat.specs.Add.{addendOf, sum, summed, summedWords}
-use Rattle.hexfloat.specs.Answer.{mapped}
+use Rattle.hexfloat.specs.Add.{addendOf, summed, summedWords}
 use Rattle.hexfloat.specs.Operand.{Operand}
-use Rattle.hexfloat.specs.Word.{digitsOf, wordsOf}
+use Rattle.hexfloat.specs.Word.{digitsOf}
 use Rattle.hexfloat.proofs.Fits.{parts-fit, addend-fits}
 use Rattle.hexfloat.proofs.addition.sum.Statement.{statement}
 use Rattle.hexfloat.proofs.addition.sum.Tie as tie
@@ -28,16 +29,16 @@ module _ (c : tie.After-parts-of2) where
   fits-y : Operand (digitsOf (c .before .before .args .width)) (c .parts-of2 .result)
   fits-y = subst⁻¹ (Operand (digitsOf (c .before .before .args .width))) (c .parts-of2 .ensures) (parts-fit (c .before .before .args .width) (c .before .before .args .b) (omega arith) (omega arith))
 
+-- an addend is in range where its operand is
+addend-held : (d : ℕ) (s : Sense) (p q : Parts) → q ≡ addendOf s p → Operand d p → Operand d q
+addend-held d s p q e o = subst⁻¹ (Operand d) e (addend-fits s o)
+
 add-parts-requires : tie.Need-add-parts-requires
-add-parts-requires c κs = (fits-x (c .before), subst⁻¹ (Operand (digitsOf (c .before .before .before .args .width))) (c .addend .ensures) (addend-fits (c .before .before .before .args .sense) (fits-y (c .before))))
+add-parts-requires c κs = search (fits-x (c .before), fits-y (c .before), c .addend .ensures, addend-held)
 
 returns : tie.Need-returns
 unfolding summedWords summed
-returns c =
-    let s = c .before .before .before .before in
-    c .add-parts .ensures
-    ∙ ap₂ (λ (p q : Parts). mapped (wordsOf (s .args .width)) (sum (digitsOf (s .args .width)) (s .args .mask) p q))
-    (c .before .before .before .parts-of .ensures) (c .before .addend .ensures ∙ ap (addendOf (s .args .sense)) (c .before .before .parts-of2 .ensures))
+returns c = rw (c .add-parts .ensures, c .before .addend .ensures, c .before .before .parts-of2 .ensures, c .before .before .before .parts-of .ensures)
 
 pub sum-spec : {M : Type 1} → statement M
 sum-spec =
