@@ -48,10 +48,11 @@ fn sum(sense: Sense, width: Width, c: Case) -> Answer {
     if a.stop != 0 {
         return a;
     }
+    let words = a.words;
     Answer {
-        words: a.words,
+        words,
         stop: 0,
-        condition: hexfloat::condition(width, a.words),
+        condition: hexfloat::condition(width, words),
     }
 }
 
