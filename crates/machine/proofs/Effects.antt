@@ -3,14 +3,14 @@
 use Prim.Native.Nat.{ℕ, _≤_}
 use mathlib.Core.Path.{_≡_, refl, subst}
 use mathlib.Core.List.{List}
-use mathlib.Core.Bool.{true, false}
+use mathlib.Core.Bool.{Bool, true, false}
 use lib.Dec.{eqb}
 use native.Mathlib.Omega.{arith}
 use borrow.Author.Tests.{le-leb, leb-true}
 use Rattle.hexfloat.specs.declared.word.Width.{Width}
 use Rattle.hexfloat.specs.declared.word.Words.{Words}
 use Rattle.hexfloat.specs.Add.{summedWords}
-use Rattle.hexfloat.specs.Answer.{gives}
+use Rattle.hexfloat.specs.Answer.{Answer, gives, mapped}
 use Rattle.hexfloat.specs.Convert.{toFixed}
 use Rattle.hexfloat.specs.Divide.{quotientWords}
 use Rattle.hexfloat.proofs.Conditions.{conditions-set}
@@ -21,7 +21,7 @@ use Rattle.machine.specs.declared.state.Registers.{Registers}
 use Rattle.machine.specs.declared.verdict.Effect.{Effect}
 use Rattle.machine.specs.Change.{registered, placed, guarded, floatChange, storageChange}
 use Rattle.machine.specs.Check.{present}
-use Rattle.machine.specs.Effect.{nextEffect, loaded, fixedInto, resultInto, performed}
+use Rattle.machine.specs.Effect.{nextEffect, conditionAfter, fixedInto, resultInto, performed}
 use Rattle.machine.specs.Jump.{jumped, countedDown}
 use Rattle.machine.specs.Operand.{floatOperand}
 use Rattle.orders.specs.Order.{storedAs, halfwords}
@@ -63,6 +63,16 @@ module _ (p : List ℕ) (n a k : ℕ) where
         cases Width.Short = record { registers = le-leb (o .r1) 7 (s .first); there = refl; free = refl; condition = h; mask = s .mask }
         cases Width.Long = record { registers = le-leb (o .r1) 7 (s .first); there = refl; free = refl; condition = h; mask = s .mask }
 
+    -- a result of arithmetic, with the condition code that it sets or leaves
+    result-fine : (sets : Bool) (r : Answer Words) (e : Effect) → mapped (resultInto sets w (g .status) (o .r1)) r ≡ gives e → Fine p n e
+    result-fine sets r e h =
+        let q = mapped-gives (resultInto sets w (g .status) (o .r1)) r h in
+        subst (λ (y : Effect). Fine p n y) (q .2) (float-fine (q .0) _ (cases sets (q .0)))
+      where
+        cases : (t : Bool) (a : Words) → conditionFormed (conditionAfter t w a (g .status .condition)) ≡ true
+        cases true a = formed (conditions-set .operand w a)
+        cases false a = s .condition
+
     -- of one register
     one-fine : (x c : ℕ) → conditionFormed c ≡ true → Fine p n (nextEffect (g .status) (Change.Float (o .r1) x) c)
     unfolding registered placed guarded
@@ -92,9 +102,7 @@ module _ (p : List ℕ) (n a k : ℕ) where
       let q = mapped-gives (fixedInto (g .status) (o .r1)) (toFixed (b .high)) h in
       subst (λ (y : Effect). Fine p n y) (q .2) (general-fine Verb.Fix w o g s _ _ (formed (conditions-set .fixed (b .high) (q .0) (q .1))))
   effect-fine Verb.Float w o g b e s h = fine-is h (one-fine Verb.Float w o g s _ _ (formed (conditions-set .float (b .high))))
-  effect-fine Verb.Divide w o g b e s h =
-      let q = mapped-gives (resultInto w (g .status) (o .r1)) (quotientWords w (eqb (g .status .mask) 1) (floatOperand w (g .float) (o .r1)) b) h in
-      subst (λ (y : Effect). Fine p n y) (q .2) (float-fine Verb.Divide w o g s (q .0) _ (s .condition))
+  effect-fine Verb.Divide w o g b e s h = result-fine Verb.Divide w o g s false (quotientWords w (eqb (g .status .mask) 1) (floatOperand w (g .float) (o .r1)) b) e h
   effect-fine Verb.Store w o g b e s h = fine-is h (storage-fine Verb.Store w o g s w (floatOperand w (g .float) (o .r1)) (s .there) (s .free))
   effect-fine Verb.LoadGeneral w o g b e s h = fine-is h (general-fine Verb.LoadGeneral w o g s _ _ (formed (conditions-set .general (b .high))))
   effect-fine Verb.StoreGeneral w o g b e s h =
@@ -105,6 +113,4 @@ module _ (p : List ℕ) (n a k : ℕ) where
   effect-fine Verb.CountDown w o g b e s h =
       fine-is h (record { registers = le-leb (o .r1) 7 (s .first); there = refl; free = refl; condition = s .condition; mask = s .mask })
   effect-fine Verb.Halt w o g b e s h = never h
-  effect-fine (Verb.Sum sense) w o g b e s h =
-      let q = mapped-gives (loaded w (g .status) (o .r1)) (summedWords sense w (eqb (g .status .mask) 1) (floatOperand w (g .float) (o .r1)) b) h in
-      subst (λ (y : Effect). Fine p n y) (q .2) (float-fine (Verb.Sum sense) w o g s (q .0) _ (formed (conditions-set .operand w (q .0))))
+  effect-fine (Verb.Sum sense) w o g b e s h = result-fine (Verb.Sum sense) w o g s true (summedWords sense w (eqb (g .status .mask) 1) (floatOperand w (g .float) (o .r1)) b) e h

@@ -1,7 +1,7 @@
 -- The numbers of a step's stops: 1 to 13, and so never the 0 of a step taken.
 use Prim.Native.Nat.{ℕ, _+_, _/_, _≤_}
 use mathlib.Core.List.{List, [], _∷_}
-use mathlib.Core.Bool.{not}
+use mathlib.Core.Bool.{true, false, not}
 use lib.Dec.{eqb, ltb}
 use lib.ListN.{length}
 use native.Mathlib.Omega.{arith}
@@ -19,7 +19,7 @@ use Rattle.machine.specs.declared.verdict.Effect.{Effect}
 use Rattle.machine.specs.Address.{addressOf}
 use Rattle.machine.specs.Check.{present}
 use Rattle.machine.specs.Decide.{entryStop, judged, decided}
-use Rattle.machine.specs.Effect.{loaded, fixedInto, resultInto, performed, effectOf}
+use Rattle.machine.specs.Effect.{fixedInto, resultInto, performed, effectOf}
 use Rattle.machine.specs.Operand.{floatOperand, secondOperand}
 use Rattle.orders.specs.Order.{rowAmong, rows, operationOf, withinLimits, legalOf, spanOf, storedOf, isHalt, orderAt}
 use Rattle.machine.specs.Protect.{anyProtected}
@@ -49,7 +49,7 @@ performed-by Verb.Compare w o g a b = tt
 performed-by Verb.Fix w o g a b =
     mapped-by StepNumber (fixedInto (g .status) (o .r1)) (toFixed (b .high)) (numbered-by StepNumber (numbered (omega arith) (omega arith)) (stops-numbered .fixed (b .high)))
 performed-by Verb.Float w o g a b = tt
-performed-by Verb.Divide w o g a b = result-by 8 (omega arith) (resultInto w (g .status) (o .r1)) (stops-numbered .quotient w (eqb (g .status .mask) 1) (floatOperand w (g .float) (o .r1)) b)
+performed-by Verb.Divide w o g a b = result-by 8 (omega arith) (resultInto false w (g .status) (o .r1)) (stops-numbered .quotient w (eqb (g .status .mask) 1) (floatOperand w (g .float) (o .r1)) b)
 performed-by Verb.Store w o g a b = tt
 performed-by Verb.LoadGeneral w o g a b = tt
 performed-by Verb.StoreGeneral w o g a b = tt
@@ -57,7 +57,7 @@ performed-by Verb.SetMask w o g a b = tt
 performed-by Verb.Jump w o g a b = tt
 performed-by Verb.CountDown w o g a b = tt
 performed-by Verb.Halt w o g a b = number 12 (omega arith) (omega arith)
-performed-by (Verb.Sum sense) w o g a b = result-by 9 (omega arith) (loaded w (g .status) (o .r1)) (stops-numbered .sum sense w (eqb (g .status .mask) 1) (floatOperand w (g .float) (o .r1)) b)
+performed-by (Verb.Sum sense) w o g a b = result-by 9 (omega arith) (resultInto true w (g .status) (o .r1)) (stops-numbered .sum sense w (eqb (g .status .mask) 1) (floatOperand w (g .float) (o .r1)) b)
 
 judged-by : (o : Order) (g : Registers) (used : ℕ) (p m : List ℕ) (journal : ℕ) (op : Operation) → StopsBy StepNumber (judged o g used p m journal op)
 unfolding judged effectOf

@@ -3,7 +3,7 @@
 use Prim.Native.Nat.{ℕ, _+_, _<_, _≤_}
 use mathlib.Core.Path.{_≡_}
 use mathlib.Core.List.{List}
-use mathlib.Core.Bool.{true}
+use mathlib.Core.Bool.{Bool, true, false, cond}
 use lib.Dec.{eqb}
 use Rattle.hexfloat.specs.declared.addition.Sense.{Sense}
 use Rattle.hexfloat.specs.declared.word.Width.{Width}
@@ -38,7 +38,7 @@ nextEffect s ch c = record { change = ch; status = status c (s .mask) (s .pointe
 abbrev pub keptCondition : Status → Change → Effect
 keptCondition s ch = nextEffect s ch (s .condition)
 
--- loads, LECR, sums and differences: the condition code by what is put into the register
+-- loads and LECR: the condition code by what is loaded
 abbrev pub loaded : Width → Status → ℕ → Words → Effect
 loaded w s r b = nextEffect s (floatChange w r b) (operandCondition w b)
 
@@ -58,15 +58,21 @@ fixedInto s r c = nextEffect s (Change.General r (c .word)) (c .condition)
 abbrev pub floatedInto : Status → ℕ → Coded → Effect
 floatedInto s r c = nextEffect s (Change.Float r (c .word)) (c .condition)
 
+-- a result of arithmetic sets the condition code or leaves it
+abbrev pub conditionAfter : Bool → Width → Words → ℕ → ℕ
+conditionAfter sets w a before = cond sets (operandCondition w a) before
+
+-- a result into R r or pair r
+abbrev pub resultInto : Bool → Width → Status → ℕ → Words → Effect
+resultInto sets w s r a = nextEffect s (floatChange w r a) (conditionAfter sets w a (s .condition))
+
 -- divides: the condition code stays
-abbrev pub resultInto : Width → Status → ℕ → Words → Effect
-resultInto w s r a = keptCondition s (floatChange w r a)
-
 abbrev pub divided : Width → Status → ℕ → Words → Words → Answer Effect
-divided w s r a b = mapped (resultInto w s r) (quotientWords w (eqb (s .mask) 1) a b)
+divided w s r a b = mapped (resultInto false w s r) (quotientWords w (eqb (s .mask) 1) a b)
 
+-- sums and differences: the condition code by the result
 abbrev pub summedInto : Sense → Width → Status → ℕ → Words → Words → Answer Effect
-summedInto sense w s r a b = mapped (loaded w s r) (summedWords sense w (eqb (s .mask) 1) a b)
+summedInto sense w s r a b = mapped (resultInto true w s r) (summedWords sense w (eqb (s .mask) 1) a b)
 
 -- L
 abbrev pub loadedGeneral : Status → ℕ → ℕ → Effect

@@ -26,12 +26,15 @@ ghost use Prim.Native.Nat.{_+_, _<_, _≤_};
 ghost use lib.ListN.{length};
 ghost use Rattle.hexfloat.specs.Answer.{gives, mapped};
 ghost use Rattle.hexfloat.specs.Convert.{toFixed};
+ghost use Rattle.hexfloat.specs.Result.{saysResult};
 ghost use Rattle.machine.specs.Effect.{
   nextEffect,
   loaded,
   complemented,
   comparedWith,
   fixedInto,
+  conditionAfter,
+  resultInto,
   divided,
   summedInto,
   loadedGeneral,
@@ -95,26 +98,51 @@ fn divide(width: Width, s: Status, r: u32, a: Words, b: Words) -> Verdict
     requires { ⌜ s .pointer + 1 < 65536 ⌝ }
     ensures { λ v. ⌜ says v ≡ divided width s r a b ⌝ }
 {
-    let q = hexfloat::divide(width, s.mask == 1, a, b);
-    match q {
-        Result::Number(a) => granted(s, float_change(width, r, a), s.condition),
-        Result::ZeroDivisor => Verdict::Refused(Stop::ZeroDivisor),
-        Result::Overflow => Verdict::Refused(Stop::Overflow),
-        Result::Underflow => Verdict::Refused(Stop::Underflow),
-    }
+    conclude(
+        false,
+        width,
+        s,
+        r,
+        hexfloat::divide(width, s.mask == 1, a, b),
+    )
 }
 
 fn sum(sense: Sense, width: Width, s: Status, r: u32, a: Words, b: Words) -> Verdict
     requires { ⌜ s .pointer + 1 < 65536 ⌝ }
     ensures { λ v. ⌜ says v ≡ summedInto sense width s r a b ⌝ }
 {
-    let q = hexfloat::sum(sense, width, s.mask == 1, a, b);
-    match q {
-        Result::Number(a) => load(width, s, r, a),
+    conclude(
+        true,
+        width,
+        s,
+        r,
+        hexfloat::sum(sense, width, s.mask == 1, a, b),
+    )
+}
+
+// A result of arithmetic, which sets the condition code or leaves it.
+fn conclude(sets: bool, width: Width, s: Status, r: u32, result: Result) -> Verdict
+    requires { ⌜ s .pointer + 1 < 65536 ⌝ }
+    ensures { λ v. ⌜ says v ≡ mapped (resultInto sets width s r) (saysResult result) ⌝ }
+{
+    match result {
+        Result::Number(a) => {
+            let condition = condition_after(sets, width, a, s.condition);
+            granted(s, float_change(width, r, a), condition)
+        }
         Result::ZeroDivisor => Verdict::Refused(Stop::ZeroDivisor),
         Result::Overflow => Verdict::Refused(Stop::Overflow),
         Result::Underflow => Verdict::Refused(Stop::Underflow),
     }
+}
+
+fn condition_after(sets: bool, width: Width, a: Words, before: u8) -> u8
+    ensures { λ r. ⌜ r ≡ conditionAfter sets width a before ⌝ }
+{
+    if sets {
+        return hexfloat::condition(width, a);
+    }
+    before
 }
 
 fn load_general(s: Status, r: u32, w: u32) -> Verdict
