@@ -1,15 +1,13 @@
 -- Laws of sums: what the code of an addition has at hand, and what follows of the intermediate sum and its result.
 use mathlib.Core.Path.{_≡_, refl, sym, ap, _∙_, subst₂}
-use mathlib.Core.Bool.{Bool}
 use mathlib.Core.Logic.{⊎-elim}
 use Prim.Native.Nat.{ℕ, suc, _+_, _-_, _*_, _/_, _%_, _^_, _≤_, _<_}
-use native.Mathlib.Nat.{le-trans, le-of-eq, lt-of-lt-of-le, lt-of-le-of-lt, mul-le-mul-right, mul-lt-mul-of-pos-right, lt-of-mul-lt-mul-right, le-of-mul-le-mul-right, mul-assoc, mul-comm, eq-zero-or-pos, pos-of-ne-zero}
+use native.Mathlib.Nat.{le-trans, le-of-eq, lt-of-lt-of-le, lt-of-le-of-lt, mul-le-mul-right, mul-lt-mul-of-pos-right, lt-of-mul-lt-mul-right, le-of-mul-le-mul-right, mul-assoc, mul-comm, eq-zero-or-pos}
 use native.Mathlib.Omega.{arith}
 use borrow.Author.Tests.{eq-eqb, ne-eqb}
 use lib.Pow.{pow-add}
 use Rattle.hexfloat.specs.declared.word.Parts.{Parts}
-use Rattle.hexfloat.specs.Add.{input, intermediateSum}
-use Rattle.hexfloat.specs.Align.{commonCharacteristic, aligned}
+use Rattle.hexfloat.specs.Add.{input, commonCharacteristic, aligned, intermediateSum}
 use Rattle.hexfloat.specs.Normal.{digits}
 use Rattle.hexfloat.specs.Operand.{Operand, IsPlaced}
 use Rattle.hexfloat.specs.Word.{trueZero}

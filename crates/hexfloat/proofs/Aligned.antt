@@ -6,7 +6,7 @@ use native.Mathlib.Omega.{arith}
 use borrow.Author.Tests.{lt-ltb, le-ltb}
 use lib.Pow.{pow-add}
 use Rattle.hexfloat.specs.declared.word.Parts.{Parts}
-use Rattle.hexfloat.specs.Align.{commonCharacteristic, aligned, IsAligned}
+use Rattle.hexfloat.specs.Add.{commonCharacteristic, aligned, IsAligned}
 use Rattle.hexfloat.specs.Word.{magnitude}
 use Rattle.hexfloat.proofs.Digits.{pos}
 use Rattle.hexfloat.proofs.Keys.{Trichotomy, less, same, more, trichotomy}

@@ -14,7 +14,7 @@ use Rattle.hexfloat.specs.Compare.{compared, comparedWords}
 use Rattle.hexfloat.specs.Convert.{toFixed, toFloat, fixedMagnitude}
 use Rattle.hexfloat.specs.Result.{resultOf, underflow}
 use Rattle.hexfloat.specs.Divide.{quotient, quotientWords}
-use Rattle.hexfloat.specs.Add.{addendOf, sum, resultOfSum, summed, summedWords}
+use Rattle.hexfloat.specs.Add.{addendOf, resultOfSum, sum, summed, summedWords}
 use Rattle.hexfloat.specs.Theorems.{ConditionsSet, Numbered, given, stopped, StopsNumbered}
 
 by-tests : (equal above : Bool) → IsCondition (conditionBy equal above)

@@ -7,9 +7,7 @@ use Rattle.hexfloat.specs.Convert.{toFixed, toFloat, floatParts, fixedMa
 use Rattle.hexfloat.specs.Divide.{quotientWords, quotient}
 use Rattle.hexfloat.specs.Result.{resultOf}
 use Rattle.hexfloat.specs.Word.{magnitude}
-use Rattle.hexfloat.specs.Align.{commonCharacteristic, aligned}
-use Rattle.hexfloat.specs.Signed.{signed}
-use Rattle.hexfloat.specs.Add.{input, intermediateSum, resultOfSum, addendOf, sum, summed, summedWords}
+use Rattle.hexfloat.specs.Add.{addendOf, input, commonCharacteristic, aligned, signed, intermediateSum, resultOfSum, sum, summed, summedWords}
 use Rattle.hexfloat.specs.Edges.{StarredEdges, SumEdges}
 
 pub starred-edges : StarredEdges

@@ -1,5 +1,5 @@
 -- Words have parts in range, and so have the fraction of a ratio and a converted word.
-use mathlib.Core.Path.{_≡_, refl}
+use mathlib.Core.Path.{_≡_, refl, subst⁻¹}
 use Prim.Native.Nat.{ℕ, _+_, _*_, _^_, _≤_, _<_}
 use native.Mathlib.Nat.{ne-of-gt, le-of-eq, lt-of-lt-of-le, lt-of-le-of-lt, mul-assoc, mul-lt-mul-of-pos-right, mul-comm, lt-of-mul-lt-mul-right}
 use native.Mathlib.Omega.{arith}
@@ -39,6 +39,10 @@ addend-fits Sense.Minus o = inverted-fits o
 pub width-fits : (w : Width) → (1 < digitsOf w) × (digitsOf w ≤ 14)
 width-fits Short = (omega arith, omega arith)
 width-fits Long = (omega arith, omega arith)
+
+-- the parts of a word are in range, by whatever name
+pub held : {p : Parts} (w : Width) (a : Words) → p ≡ partsOf w a → a .high < 2 ^ 32 → a .low < 2 ^ 32 → Operand (digitsOf w) p
+held w a e h l = subst⁻¹ (Operand (digitsOf w)) e (parts-fit w a h l)
 
 -- true zero has no bit in its words
 pub no-bits : (w : Width) → wordsOf w trueZero ≡ shortWords 0

@@ -1,5 +1,5 @@
 -- A ratio keeps its result where dividend and divisor grow alike, and a signed number its sign where both its parts do.
-use mathlib.Core.Path.{_≡_, refl, sym, ap, ap₂, _∙_}
+use mathlib.Core.Path.{_≡_, sym, ap, ap₂, _∙_}
 use mathlib.Core.Bool.{Bool, cond}
 use mathlib.Core.Logic.{⊎-elim}
 use Prim.Native.Nat.{ℕ, _+_, _-_, _*_, _/_, _^_, _≤_, _<_}
@@ -7,10 +7,9 @@ use native.Mathlib.Nat.{le-of-eq, le-of-lt, add-mul, mul-assoc, mul-right-comm, 
 use native.Mathlib.Omega.{arith}
 use lib.Dec.{ltb, leb, eqb}
 use borrow.Author.Tests.{lt-ltb, le-ltb, le-leb, lt-leb, eq-eqb, ne-eqb}
-use Rattle.hexfloat.specs.declared.signed.Signed.{Signed}
+use Rattle.hexfloat.specs.Add.{signed}
 use Rattle.hexfloat.specs.Normal.{digits, characteristicOf, fractionOf}
 use Rattle.hexfloat.specs.Result.{resultOf}
-use Rattle.hexfloat.specs.Signed.{signed}
 use Rattle.hexfloat.proofs.Keys.{Trichotomy, less, same, more, trichotomy}
 
 module _ (k : ℕ) (some : 0 < k) where

@@ -7,7 +7,8 @@ use lib.Dec.{ltb, eqb}
 use native.Mathlib.Nat.{zero-mul, ne-of-gt, eq-zero-or-pos}
 use native.Mathlib.Omega.{arith}
 use borrow.Author.Tests.{eq-eqb, ne-eqb}
-use Rattle.hexfloat.specs.Signed.{above, below, signed}
+use Rattle.hexfloat.specs.Add.{signed}
+use Rattle.hexfloat.specs.Compare.{above, below}
 
 -- one part is the magnitude, the other 0
 pub parts-whole : (s m : ℕ) → above s m + below s m ≡ m

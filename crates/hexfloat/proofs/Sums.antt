@@ -1,23 +1,20 @@
 -- The theorems on sums of specs/Theorems.antt, over the digits d.
 use mathlib.Core.Path.{_≡_, refl, sym, ap, ap₂, _∙_}
-use mathlib.Core.Bool.{Bool, true, false, cond}
+use mathlib.Core.Bool.{Bool}
 use mathlib.Core.Logic.{⊎-elim}
-use Prim.Native.Nat.{ℕ, zero, suc, _+_, _-_, _*_, _/_, _%_, _^_, _≤_, _<_}
-use native.Mathlib.Nat.{add-comm, add-mul, add-zero, mul-assoc, mul-right-comm, mul-pos, zero-mul, div-add-mod', eq-zero-or-pos}
+use Prim.Native.Nat.{ℕ, _+_, _-_, _*_, _^_, _≤_, _<_}
+use native.Mathlib.Nat.{add-comm, add-mul, mul-assoc, mul-pos, zero-mul, eq-zero-or-pos}
 use native.Mathlib.Omega.{arith}
-use lib.Dec.{eqb}
 use lib.Pow.{pow-add}
 use Rattle.hexfloat.specs.declared.addition.Sense.{Sense}
 use Rattle.hexfloat.specs.declared.signed.Signed.{Signed}
 use Rattle.hexfloat.specs.declared.word.Parts.{Parts}
 use Rattle.hexfloat.specs.declared.word.Width.{Width}
 use Rattle.hexfloat.specs.declared.word.Words.{Words}
-use Rattle.hexfloat.specs.Add.{input, intermediateSum, resultOfSum, sumOfInputs, addendOf, sum, summed, summedWords}
-use Rattle.hexfloat.specs.Align.{commonCharacteristic, aligned}
-use Rattle.hexfloat.specs.Answer.{Answer, gives, mapped}
-use Rattle.hexfloat.specs.Compare.{positive, negative}
+use Rattle.hexfloat.specs.Add.{addendOf, input, commonCharacteristic, aligned, signed, intermediateSum, resultOfSum, sumOfInputs, sum, summed, summedWords}
+use Rattle.hexfloat.specs.Answer.{gives, mapped}
+use Rattle.hexfloat.specs.Compare.{above, below, positive, negative}
 use Rattle.hexfloat.specs.Result.{resultOf}
-use Rattle.hexfloat.specs.Signed.{above, below, signed}
 use Rattle.hexfloat.specs.Theorems.{ExactAlignment, ExactIntermediate, DropsZeros, exactSum, ExactSum, SumLaws, WordLaws}
 use Rattle.hexfloat.specs.Word.{digitsOf, partsOf, wordsOf, inverted, trueZero, magnitude}
 use Rattle.hexfloat.proofs.Added.{input-zero, input-some}
@@ -182,6 +179,9 @@ module _ (d : ℕ) (mask : Bool) where
   unfolding sum
   zero-for x y e = ap (sumOfInputs d mask (input x)) (input-zero y e ∙ sym (input-zero trueZero refl))
 
+  zero-before : (x y : Parts) → x .fraction ≡ 0 → sum d mask x y ≡ sum d mask trueZero y
+  zero-before x y e = swapped x y ∙ zero-for y x e ∙ swapped y trueZero
+
 addend-fraction : (s : Sense) (y : Parts) → addendOf s y .fraction ≡ y .fraction
 unfolding addendOf
 addend-fraction Sense.Plus y = refl
@@ -192,6 +192,7 @@ unfolding summed
 sum-laws d mask x y = record {
   interchanged = swapped d mask x y;
   less-itself = less-itself d mask x;
+  zero-first = λ s e. zero-before d mask x (addendOf s y) e;
   zero-second = λ s e. zero-for d mask x (addendOf s y) (addend-fraction s y ∙ e);
 }
 

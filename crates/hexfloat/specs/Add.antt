@@ -1,23 +1,41 @@
--- Sums and differences (8.9, 8.10, 8.26, 8.27).
-use Prim.Native.Nat.{ℕ, _+_, _*_, _^_}
+-- Sums and differences (8.9, 8.10, 8.26, 8.27), over the digits d: two inputs, aligned; their intermediate sum; its result.
+use Prim.Native.Nat.{ℕ, suc, _+_, _-_, _*_, _/_, _^_, _≤_, _<_}
 use mathlib.Core.Bool.{Bool, cond}
-use lib.Dec.{eqb}
+use lib.Dec.{ltb, eqb}
 use Rattle.hexfloat.specs.declared.addition.Sense.{Sense}
 use Rattle.hexfloat.specs.declared.signed.Signed.{Signed}
 use Rattle.hexfloat.specs.declared.word.Parts.{Parts}
 use Rattle.hexfloat.specs.declared.word.Width.{Width}
 use Rattle.hexfloat.specs.declared.word.Words.{Words}
-use Rattle.hexfloat.specs.Align.{commonCharacteristic, aligned}
 use Rattle.hexfloat.specs.Answer.{Answer, mapped}
+use Rattle.hexfloat.specs.Compare.{above, below}
 use Rattle.hexfloat.specs.Result.{resultOf}
-use Rattle.hexfloat.specs.Signed.{above, below, signed}
-use Rattle.hexfloat.specs.Word.{digitsOf, partsOf, wordsOf, inverted, trueZero}
+use Rattle.hexfloat.specs.Word.{digitsOf, partsOf, wordsOf, inverted, trueZero, magnitude}
 
 -- 8.3: an input with a zero fraction is treated as a true zero, whatever its sign and characteristic
 unfoldable pub input : Parts → Parts
 input p = cond (eqb (p .fraction) 0) trueZero p
 
--- 8.10: the intermediate sum has one guard digit (8.9: 15 digits for 14), and a possible carry. It is the sum of the aligned fractions by their signs.
+-- 8.9: the characteristics are compared, and the larger one is aligned to; the operands are not normalised before
+unfoldable pub commonCharacteristic : Parts → Parts → ℕ
+commonCharacteristic x y = cond (ltb (x .characteristic) (y .characteristic)) (y .characteristic) (x .characteristic)
+
+-- 8.9: the fraction with g guard digits behind it, moved right by one digit for each that c is larger than its characteristic. What falls past the last
+-- guard digit is dropped.
+unfoldable pub aligned : ℕ → ℕ → Parts → ℕ
+aligned g c p = p .fraction * 16 ^ g / 16 ^ (c - p .characteristic)
+
+-- f ≤ v < f + 1, where v is the exact magnitude of a number of d digits in units of the last of d + g digits at characteristic c, multiplied out
+pub record IsAligned (d g c : ℕ) (p : Parts) (f : ℕ) : Type 0 where
+  pub least : f * 16 ^ (c + (14 - d)) ≤ magnitude d p * 16 ^ g
+  pub most : magnitude d p * 16 ^ g < suc f * 16 ^ (c + (14 - d))
+
+-- 8.9: what is p above zero and n below it: the sign by the rules of algebra, zero being positive, and the distance of p and n
+unfoldable pub signed : ℕ → ℕ → Signed
+signed p n = record { sign = cond (ltb p n) 1 0; magnitude = p - n + (n - p) }
+
+-- 8.10: an intermediate sum of seven digits, six and a guard digit, and a possible carry; 8.9: of 15. It is the sum of the aligned fractions by their
+-- signs, with the negative parts brought over as for a compare.
 unfoldable pub intermediateSum : Parts → Parts → Signed
 intermediateSum x y =
     let c = commonCharacteristic x y in
@@ -25,14 +43,15 @@ intermediateSum x y =
     let v = aligned 1 c y in
     signed (above (x .sign) u + above (y .sign) v) (below (x .sign) u + below (y .sign) v)
 
--- an intermediate sum of d + 1 digits at characteristic c is s / 16^(d + 1) * 16^(c - 64), that is the ratio of s * 16^c and 16^(65 + d)
+-- An intermediate sum s of d + 1 digits at characteristic c is s / 16^(d + 1) * 16^(c - 64), that is the ratio of s * 16^c and 16^(65 + d). It is
+-- normalised and cut, and overflows and underflows, as any result.
 unfoldable pub resultOfSum : ℕ → Bool → ℕ → Signed → Answer Parts
 resultOfSum d mask c s = resultOf d mask (s .sign) (s .magnitude * 16 ^ c) (16 ^ (65 + d))
 
 abbrev pub sumOfInputs : ℕ → Bool → Parts → Parts → Answer Parts
 sumOfInputs d mask x y = resultOfSum d mask (commonCharacteristic x y) (intermediateSum x y)
 
--- The sum of two numbers of d digits.
+-- the sum of two numbers of d digits
 unfoldable pub sum : ℕ → Bool → Parts → Parts → Answer Parts
 sum d mask x y = sumOfInputs d mask (input x) (input y)
 

@@ -1,18 +1,25 @@
 -- Compares by exact value (8.11, 8.12; document 01, 'Orders').
 use Prim.Native.Nat.{ℕ, _+_}
+use mathlib.Core.Bool.{cond}
 use lib.Dec.{ltb, eqb}
 use Rattle.hexfloat.specs.declared.word.Parts.{Parts}
 use Rattle.hexfloat.specs.declared.word.Width.{Width}
 use Rattle.hexfloat.specs.declared.word.Words.{Words}
 use Rattle.hexfloat.specs.Condition.{conditionBy}
-use Rattle.hexfloat.specs.Signed.{above, below}
 use Rattle.hexfloat.specs.Word.{digitsOf, partsOf, magnitude}
 
 -- x against y
 abbrev pub rankCondition : ℕ → ℕ → ℕ
 rankCondition x y = conditionBy (eqb x y) (ltb y x)
 
--- the part of a number's value that stands above zero, and the part below it
+-- of a sign and a magnitude the part that stands above zero, and the part below it
+abbrev pub above : ℕ → ℕ → ℕ
+above sign m = cond (eqb sign 0) m 0
+
+abbrev pub below : ℕ → ℕ → ℕ
+below sign m = cond (eqb sign 0) 0 m
+
+-- the same of a number's value
 unfoldable pub positive : ℕ → Parts → ℕ
 positive d p = above (p .sign) (magnitude d p)
 

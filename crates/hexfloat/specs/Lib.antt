@@ -2,12 +2,10 @@ pub mod Answer
 pub mod Word
 pub mod Normal
 pub mod Condition
-pub mod Signed
 pub mod Compare
 pub mod Convert
 pub mod Result
 pub mod Divide
-pub mod Align
 pub mod Add
 pub mod Operand
 pub mod Edges

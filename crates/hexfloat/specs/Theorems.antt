@@ -17,9 +17,7 @@ use Rattle.hexfloat.specs.Normal.{IsCharacteristic, IsFraction, IsBelowZ
 use Rattle.hexfloat.specs.Convert.{fixedMagnitude, wordMagnitude, floatParts, toFixed, toFloat}
 use Rattle.hexfloat.specs.Result.{resultOf, underflow}
 use Rattle.hexfloat.specs.Divide.{quotient, quotientWords}
-use Rattle.hexfloat.specs.Align.{commonCharacteristic, aligned, IsAligned}
-use Rattle.hexfloat.specs.Signed.{signed}
-use Rattle.hexfloat.specs.Add.{input, intermediateSum, sum, summed, summedWords}
+use Rattle.hexfloat.specs.Add.{input, commonCharacteristic, aligned, IsAligned, signed, intermediateSum, sum, summed, summedWords}
 
 -- For whole numbers a and b above 0 there is one characteristic of a / b, 0 or more or below 0, and to it one fraction of d digits.
 pub record OneNumber (d a b : ℕ) : Type 0 where
@@ -77,6 +75,7 @@ pub record ExactSum (d : ℕ) (mask : Bool) (x y : Parts) : Type 0 where
 pub record SumLaws (d : ℕ) (mask : Bool) (x y : Parts) : Type 0 where
   pub interchanged : sum d mask x y ≡ sum d mask y x
   pub less-itself : summed Sense.Minus d mask x x ≡ gives trueZero
+  pub zero-first : (s : Sense) → x .fraction ≡ 0 → summed s d mask x y ≡ summed s d mask trueZero y
   pub zero-second : (s : Sense) → y .fraction ≡ 0 → summed s d mask x y ≡ sum d mask x trueZero
 
 -- the same of words, short and long

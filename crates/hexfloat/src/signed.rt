@@ -1,7 +1,8 @@
 // Signed numbers by a sign and a magnitude (8.2).
 ghost use mathlib.Core.Path.{_≡_};
 ghost use Prim.Native.Nat.{_+_, _<_, _^_};
-ghost use Rattle.hexfloat.specs.Signed.{above, below, signed};
+ghost use Rattle.hexfloat.specs.Add.{signed};
+ghost use Rattle.hexfloat.specs.Compare.{above, below};
 
 pub struct Signed {
     pub sign: u32,

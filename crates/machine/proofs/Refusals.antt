@@ -7,7 +7,7 @@ use lib.ListN.{length}
 use native.Mathlib.Omega.{arith}
 use Rattle.hexfloat.specs.declared.word.Width.{Width}
 use Rattle.hexfloat.specs.declared.word.Words.{Words}
-use Rattle.hexfloat.specs.Answer.{Answer, gives, stops, mapped, provided}
+use Rattle.hexfloat.specs.Answer.{Answer, gives, mapped, provided}
 use Rattle.hexfloat.specs.Convert.{toFixed}
 use Rattle.hexfloat.specs.Theorems.{Numbered}
 use Rattle.hexfloat.proofs.Conditions.{stops-numbered}

@@ -6,11 +6,10 @@ use native.Mathlib.Omega.{arith}
 use borrow.Author.Needs.{needs}
 use Rattle.hexfloat.specs.declared.signed.Signed.{Signed}
 use Rattle.hexfloat.specs.declared.word.Parts.{Parts}
-use Rattle.hexfloat.specs.Add.{input, intermediateSum, resultOfSum, sum}
-use Rattle.hexfloat.specs.Align.{commonCharacteristic, aligned}
+use Rattle.hexfloat.specs.Add.{input, commonCharacteristic, aligned, signed, intermediateSum, resultOfSum, sum}
+use Rattle.hexfloat.specs.Compare.{above, below}
 use Rattle.hexfloat.specs.Answer.{mapped}
 use Rattle.hexfloat.specs.Operand.{Operand}
-use Rattle.hexfloat.specs.Signed.{above, below, signed}
 use Rattle.hexfloat.specs.Word.{digitsOf, wordsOf}
 use Rattle.hexfloat.proofs.Added.{input-fits, sum-fits}
 use Rattle.hexfloat.proofs.Aligned.{common-left, common-right, common-most, aligned-most}

@@ -1,14 +1,14 @@
 -- `align` meets its contract: the guard digit fits a u64, and a fraction moved by 16 digits or more is gone.
-use mathlib.Core.Path.{_≡_, ap, _∙_, sym}
+use mathlib.Core.Path.{ap, _∙_, sym}
 use Prim.Native.Nat.{ℕ, _-_, _*_, _/_, _^_, _<_}
 use native.Mathlib.Nat.{lt-of-lt-of-le}
 use native.Mathlib.Omega.{arith}
 use borrow.Author.Needs.{needs}
-use Rattle.hexfloat.specs.Align.{aligned}
 use Rattle.hexfloat.proofs.Aligned.{aligned-gone}
 use Rattle.hexfloat.proofs.Digits.{mono, four-bits, moved-left}
 use Rattle.hexfloat.proofs.addition.align.Statement.{statement}
 use Rattle.hexfloat.proofs.addition.align.Tie as tie
+use Rattle.hexfloat.specs.Add.{aligned}
 
 sub-shift : tie.Need-sub-shift
 sub-shift c = search needs

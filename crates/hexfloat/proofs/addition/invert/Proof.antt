@@ -1,6 +1,6 @@
 -- `invert` meets its contract: one less the sign, by the sign.
 use mathlib.Core.Path.{_≡_}
-use Prim.Native.Nat.{ℕ, _-_}
+use Prim.Native.Nat.{_-_}
 use native.Mathlib.Omega.{arith}
 use Rattle.hexfloat.proofs.addition.invert.Statement.{statement}
 use Rattle.hexfloat.proofs.addition.invert.Tie as tie

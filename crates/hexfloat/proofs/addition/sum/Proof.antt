@@ -8,7 +8,7 @@ use Rattle.hexfloat.specs.declared.word.Parts.{Parts}
 use Rattle.hexfloat.specs.Add.{addendOf, summed, summedWords}
 use Rattle.hexfloat.specs.Operand.{Operand}
 use Rattle.hexfloat.specs.Word.{digitsOf}
-use Rattle.hexfloat.proofs.Fits.{parts-fit, addend-fits}
+use Rattle.hexfloat.proofs.Fits.{held, addend-fits}
 use Rattle.hexfloat.proofs.addition.sum.Statement.{statement}
 use Rattle.hexfloat.proofs.addition.sum.Tie as tie
 
@@ -24,10 +24,10 @@ addend-requires c κs = search needs
 -- with the parts of both operands
 module _ (c : tie.After-parts-of2) where
   fits-x : Operand (digitsOf (c .before .before .args .width)) (c .before .parts-of .result)
-  fits-x = subst⁻¹ (Operand (digitsOf (c .before .before .args .width))) (c .before .parts-of .ensures) (parts-fit (c .before .before .args .width) (c .before .before .args .a) (omega arith) (omega arith))
+  fits-x = held (c .before .before .args .width) (c .before .before .args .a) (c .before .parts-of .ensures) (omega arith) (omega arith)
 
   fits-y : Operand (digitsOf (c .before .before .args .width)) (c .parts-of2 .result)
-  fits-y = subst⁻¹ (Operand (digitsOf (c .before .before .args .width))) (c .parts-of2 .ensures) (parts-fit (c .before .before .args .width) (c .before .before .args .b) (omega arith) (omega arith))
+  fits-y = held (c .before .before .args .width) (c .before .before .args .b) (c .parts-of2 .ensures) (omega arith) (omega arith)
 
 -- an addend is in range where its operand is
 addend-held : (d : ℕ) (s : Sense) (p q : Parts) → q ≡ addendOf s p → Operand d p → Operand d q

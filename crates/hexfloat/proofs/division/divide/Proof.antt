@@ -1,5 +1,5 @@
 -- `divide` meets its contract: each way out of the code has its law.
-use mathlib.Core.Path.{_≡_, sym, ap, _∙_, subst⁻¹}
+use mathlib.Core.Path.{_≡_, sym, ap, _∙_}
 use mathlib.Core.Bool.{Bool}
 use Prim.Native.Nat.{ℕ, _+_, _-_, _*_, _/_, _^_, _<_}
 use native.Mathlib.Nat.{pos-of-ne-zero}
@@ -12,7 +12,7 @@ use Rattle.hexfloat.specs.Word.{digitsOf, wordsOf, magnitude}
 use Rattle.hexfloat.specs.Divide.{quotient, quotientWords}
 use Rattle.hexfloat.specs.Operand.{Operand, IsPlaced}
 use Rattle.hexfloat.proofs.Divided.{Ready, dividend-bounds, divisor-bounds, lead-few, ratio-placed, in-words}
-use Rattle.hexfloat.proofs.Fits.{parts-fit, width-fits, no-bits, fraction-most}
+use Rattle.hexfloat.proofs.Fits.{held, width-fits, no-bits, fraction-most}
 use Rattle.hexfloat.proofs.Normalised.{magnitude-positive, magnitude-zero}
 use Rattle.hexfloat.proofs.Results.{by-zero, by-some, of-zero}
 use Rattle.hexfloat.proofs.division.divide.Statement.{statement}
@@ -33,10 +33,10 @@ module _ (c : tie.After-parts-of2) where
   y = c .parts-of2 .result
 
   fits-x : Operand (digitsOf w) x
-  fits-x = subst⁻¹ (Operand (digitsOf w)) (c .before .parts-of .ensures) (parts-fit w (c .before .before .args .a) (omega arith) (omega arith))
+  fits-x = held w (c .before .before .args .a) (c .before .parts-of .ensures) (omega arith) (omega arith)
 
   fits-y : Operand (digitsOf w) y
-  fits-y = subst⁻¹ (Operand (digitsOf w)) (c .parts-of2 .ensures) (parts-fit w (c .before .before .args .b) (omega arith) (omega arith))
+  fits-y = held w (c .before .before .args .b) (c .parts-of2 .ensures) (omega arith) (omega arith)
 
   said : mapped (wordsOf w) (quotient (digitsOf w) mask x y) ≡ quotientWords w mask (c .before .before .args .a) (c .before .before .args .b)
   said = in-words w mask (c .before .before .args .a) (c .before .before .args .b) (c .before .parts-of .ensures) (c .parts-of2 .ensures)

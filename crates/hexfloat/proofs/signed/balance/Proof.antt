@@ -4,9 +4,9 @@ use Prim.Native.Nat.{ℕ, _+_, _-_, _≤_, _<_}
 use native.Mathlib.Omega.{arith}
 use borrow.Author.Needs.{needs}
 use borrow.Author.Tests.{lt-ltb, le-ltb}
-use Rattle.hexfloat.specs.Signed.{signed}
 use Rattle.hexfloat.proofs.signed.balance.Statement.{statement}
 use Rattle.hexfloat.proofs.signed.balance.Tie as tie
+use Rattle.hexfloat.specs.Add.{signed}
 
 sub-t4 : tie.Need-sub-t4
 sub-t4 c = search needs
