@@ -9,7 +9,7 @@ use crate::word::Parts;
 use crate::word::Width;
 use crate::word::Words;
 ghost use mathlib.Core.Path.{_≡_};
-ghost use Prim.Native.Nat.{_+_, _*_, _<_, _≤_, _^_};
+ghost use Prim.Native.Nat.{_<_, _≤_, _^_};
 ghost use Rattle.hexfloat.specs.Add.{addendOf, input, commonCharacteristic, aligned, resultOfSum, sum, summedWords};
 ghost use Rattle.hexfloat.specs.Answer.{mapped};
 ghost use Rattle.hexfloat.specs.Operand.{Operand};
