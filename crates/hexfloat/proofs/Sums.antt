@@ -128,6 +128,7 @@ unfolding sum resultOfSum
 exact-sum d mask x y = record {
   first = exact-alignment d 1 (commonCharacteristic (input x) (input y)) (input x) (common-left (input x) (input y));
   second = exact-alignment d 1 (commonCharacteristic (input x) (input y)) (input y) (common-right (input x) (input y));
+  result = exact-intermediate d mask (commonCharacteristic (input x) (input y)) (intermediateSum (input x) (input y));
   intermediate = refl;
   exact = λ h z.
       exact-of-inputs d (input x) (input y) z mask h

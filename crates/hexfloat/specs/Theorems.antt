@@ -66,6 +66,7 @@ exactSum d x y = signed (positive d x + positive d y) (negative d x + negative d
 pub record ExactSum (d : ℕ) (mask : Bool) (x y : Parts) : Type 0 where
   pub first : ExactAlignment d 1 (commonCharacteristic (input x) (input y)) (input x)
   pub second : ExactAlignment d 1 (commonCharacteristic (input x) (input y)) (input y)
+  pub result : ExactIntermediate d mask (commonCharacteristic (input x) (input y)) (intermediateSum (input x) (input y))
   pub intermediate : sum d mask x y
       ≡ resultOf d mask (intermediateSum (input x) (input y) .sign) (intermediateSum (input x) (input y) .magnitude * 16 ^ commonCharacteristic (input x) (input y)) (16 ^ (65 + d))
   pub exact : d ≤ 14 → DropsZeros (input x) (input y) → sum d mask x y ≡ resultOf d mask (exactSum d x y .sign) (exactSum d x y .magnitude) (16 ^ 78)

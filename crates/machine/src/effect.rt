@@ -98,30 +98,20 @@ fn divide(width: Width, s: Status, r: u32, a: Words, b: Words) -> Verdict
     requires { ⌜ s .pointer + 1 < 65536 ⌝ }
     ensures { λ v. ⌜ says v ≡ divided width s r a b ⌝ }
 {
-    conclude(
-        false,
-        width,
-        s,
-        r,
-        hexfloat::divide(width, s.mask == 1, a, b),
-    )
+    let q = hexfloat::divide(width, s.mask == 1, a, b);
+    place_result(false, width, s, r, q)
 }
 
 fn sum(sense: Sense, width: Width, s: Status, r: u32, a: Words, b: Words) -> Verdict
     requires { ⌜ s .pointer + 1 < 65536 ⌝ }
     ensures { λ v. ⌜ says v ≡ summedInto sense width s r a b ⌝ }
 {
-    conclude(
-        true,
-        width,
-        s,
-        r,
-        hexfloat::sum(sense, width, s.mask == 1, a, b),
-    )
+    let q = hexfloat::sum(sense, width, s.mask == 1, a, b);
+    place_result(true, width, s, r, q)
 }
 
 // A result of arithmetic, which sets the condition code or leaves it.
-fn conclude(sets: bool, width: Width, s: Status, r: u32, result: Result) -> Verdict
+fn place_result(sets: bool, width: Width, s: Status, r: u32, result: Result) -> Verdict
     requires { ⌜ s .pointer + 1 < 65536 ⌝ }
     ensures { λ v. ⌜ says v ≡ mapped (resultInto sets width s r) (saysResult result) ⌝ }
 {

@@ -195,7 +195,7 @@ pub fn stored(op: Operation) -> u32
         Verb::Jump => 0,
         Verb::CountDown => 0,
         Verb::Halt => 0,
-        Verb::Sum(sense) => 0,
+        Verb::Sum(_) => 0,
     }
 }
 
@@ -216,6 +216,6 @@ pub fn halts(verb: Verb) -> bool
         Verb::Jump => false,
         Verb::CountDown => false,
         Verb::Halt => true,
-        Verb::Sum(sense) => false,
+        Verb::Sum(_) => false,
     }
 }

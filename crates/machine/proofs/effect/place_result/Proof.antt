@@ -1,8 +1,8 @@
--- `machine::effect::conclude` meets its contract: each answer of the arithmetic, one by one.
+-- `machine::effect::place_result` meets its contract: each answer of the arithmetic, one by one.
 -- Assumes nothing.
 use borrow.Author.Needs.{needs}
-use Rattle.machine.proofs.effect.conclude.Statement.{statement}
-use Rattle.machine.proofs.effect.conclude.Tie as tie
+use Rattle.machine.proofs.effect.place_result.Statement.{statement}
+use Rattle.machine.proofs.effect.place_result.Tie as tie
 
 enum-known-result : tie.Need-enum-known-result
 enum-known-result c = search needs
@@ -43,8 +43,8 @@ returns-3 c = rw (c .enum-told2 .given .1)
 returns-4 : tie.Need-returns-4
 returns-4 c = rw (c .enum-told3 .given .1)
 
-pub conclude-spec : {M : Type 1} → statement M
-conclude-spec =
+pub place-result-spec : {M : Type 1} → statement M
+place-result-spec =
     tie.close
     (tie.spec
     enum-known-result
