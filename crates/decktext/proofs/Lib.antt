@@ -1,6 +1,7 @@
 -- The laws of the reader.
 mod Same
 mod Tags
+mod Tested
 mod Held
 mod Digits
 mod Names

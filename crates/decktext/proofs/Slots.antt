@@ -1,16 +1,17 @@
 -- A key stands in its slot, or is no mnemonic's: two tests that are computed, one over the slots and one over the mnemonics.
-use Prim.Native.Nat.{ℕ, zero, suc, _+_, _/_, _%_, _<_}
+use Prim.Native.Nat.{ℕ, _+_, _/_, _%_, _<_}
 use mathlib.Core.Path.{_≡_, refl, sym, ap, _∙_}
 use mathlib.Core.Bool.{Bool, true, false, cond, _&&_, _||_}
 use mathlib.Core.List.{List, [], _∷_}
 use native.Mathlib.Nat.{mod-lt, zero-lt-suc}
 use native.Mathlib.Omega.{arith}
 use lib.Dec.{eqb}
-use borrow.Author.Tests.{eqb-true, eqb-false}
+use borrow.Author.Tests.{eqb-true}
 use Rattle.hexfloat.specs.Answer.{Answer, gives, stops}
 use Rattle.decktext.specs.Value.{mnemonics}
 use Rattle.decktext.specs.Key.{bytesFrom, nameKey, codeAmongKeys, codeByKey, slotOf, entryOf}
 use Rattle.decktext.proofs.Same.{and-true}
+use Rattle.decktext.proofs.Tested.{allBelow, passes}
 
 abbrev answers : Answer ℕ → ℕ → Bool
 answers (gives x) n = eqb x n
@@ -24,23 +25,8 @@ answered (stops k) n h = let z : _≡_ {A = ℕ} 0 1 = cc in absurd (omega arith
 right : ℕ → Bool
 right h = eqb (entryOf h) 0 || answers (codeByKey (entryOf h / 64)) (entryOf h % 64)
 
-below : ℕ → Bool
-below zero = true
-below (suc n) = right n && below n
-
-right-by : (n h : ℕ) (b : Bool) → eqb h n ≡ b → right n ≡ true → (h < n → right h ≡ true) → h < suc n → right h ≡ true
-right-by n h true e here before l = rw (eqb-true h n e) here
-right-by n h false e here before l = before (let ne = eqb-false h n e in omega arith)
-
-right-at : (n h : ℕ) → below n ≡ true → h < n → right h ≡ true
-unfolding below
-right-at zero h t l = absurd (omega arith)
-right-at (suc n) h t l =
-    let a = and-true (right n) (below n) t in
-    right-by n h (eqb h n) refl (a .0) (right-at n h (a .1)) l
-
-all-right : below 64 ≡ true
-unfolding below right entryOf codeByKey codeAmongKeys nameKey bytesFrom
+all-right : allBelow right 64 ≡ true
+unfolding allBelow right entryOf codeByKey codeAmongKeys nameKey bytesFrom
 all-right = refl
 
 slot-zero : entryOf (slotOf 0) ≡ 0 → ⊥
@@ -62,7 +48,7 @@ in-slot-by k false z e t = ap codeByKey (sym e) ∙ answered (codeByKey (entryOf
 -- the code of the key that stands in its slot
 pub in-slot : (k : ℕ) → entryOf (slotOf k) / 64 ≡ k → codeByKey k ≡ gives (entryOf (slotOf k) % 64)
 unfolding right
-in-slot k e = in-slot-by k (eqb (entryOf (slotOf k)) 0) refl e (right-at 64 (slotOf k) all-right (slot-below k))
+in-slot k e = in-slot-by k (eqb (entryOf (slotOf k)) 0) refl e (passes right 64 (slotOf k) all-right (slot-below k))
 
 -- every mnemonic stands in its slot
 stand : List (List ℕ) → Bool
