@@ -1,4 +1,4 @@
--- Decimals and words: what else is asked of them than digits.
+-- Decimals, protect digits and words: what else is asked of them than digits.
 use mathlib.Core.Path.{_≡_, refl, sym, ap, _∙_}
 use mathlib.Core.Bool.{Bool, true, false, not, _&&_}
 use mathlib.Core.List.{List, [], _∷_}
@@ -6,13 +6,14 @@ use Prim.Native.Nat.{ℕ, _+_, _-_, _*_, _^_, _≤_, _<_}
 use native.Mathlib.Nat.{one-mul, le-trans, le-of-eq, lt-of-lt-of-le, mul-one, mul-assoc, mul-comm, mul-le-mul-right, pow-suc, pow-le-pow-right}
 use native.Mathlib.Omega.{arith}
 use lib.ListN.{length, getD}
-use lib.Dec.{eqb, leb}
-use borrow.Author.Tests.{eq-eqb, eqb-false, leb-true, le-leb, lt-leb, ne-eqb}
+use lib.Dec.{eqb, leb, ltb}
+use borrow.Author.Tests.{eq-eqb, eqb-true, eqb-false, leb-true, le-leb, lt-leb, ltb-true, ne-eqb}
 use Rattle.hexfloat.specs.Answer.{gives, stops, provided}
-use Rattle.decktext.specs.Value.{all, isDigit, isHexadecimal, digitOf, numberFrom, plain, decimalOf, wordOf}
+use Rattle.decktext.specs.Text.{same}
+use Rattle.decktext.specs.Value.{all, isDigit, isHexadecimal, digitOf, markedDigit, numberFrom, plain, decimalOf, protectOf, wordOf}
 use Rattle.decktext.specs.Walk.{digitIn, numberIn}
-use Rattle.decktext.proofs.Digits.{decimal-digit, hexadecimal-digit, all-same, word-below}
-use Rattle.decktext.proofs.Same.{and-true, single}
+use Rattle.decktext.proofs.Digits.{decimal-digit, hexadecimal-digit, decimal-byte, all-same, word-below}
+use Rattle.decktext.proofs.Same.{and-true, same-length, single}
 
 -- a number has at least n before its digits
 pub number-grows : (v : List ℕ) (n : ℕ) → n * 10 ^ length v ≤ numberFrom 10 n v
@@ -64,11 +65,11 @@ decimal-none [] l = refl
 decimal-none (b ∷ v) l = absurd (omega arith)
 
 -- more digits have no 0 in front
-pub decimal-leading : (v : List ℕ) → 1 < length v → getD v 0 0 ≡ 48 → stops 16 ≡ decimalOf v
+pub decimal-leading : (v : List ℕ) → 1 < length v → markedDigit (getD v 0 0) ≡ 0 → stops 16 ≡ decimalOf v
 unfolding decimalOf
-decimal-leading [] l e = absurd (omega arith)
-decimal-leading (b ∷ []) l e = absurd (omega arith)
-decimal-leading (b ∷ c ∷ v) l e = rw e
+decimal-leading [] l z = absurd (omega arith)
+decimal-leading (b ∷ []) l z = absurd (omega arith)
+decimal-leading (b ∷ c ∷ v) l z = let e : b ≡ 48 = omega (arith, decimal-byte b (omega arith)) in rw e
 
 -- the number of a plain decimal: of one digit, and of more with no 0 in front
 decimal-plain : (v : List ℕ) → plain v ≡ true → numberIn 10 v ≡ decimalOf v
@@ -78,10 +79,34 @@ decimal-plain v p = rw (p, all-same (digitIn 10) isDigit decimal-digit v)
 pub decimal-single : (v : List ℕ) → length v ≡ 1 → numberIn 10 v ≡ decimalOf v
 decimal-single v l = decimal-plain v (rw (single v l))
 
-pub decimal-number : (v : List ℕ) → 1 < length v → (getD v 0 0 ≡ 48 → ⊥) → numberIn 10 v ≡ decimalOf v
+pub decimal-number : (v : List ℕ) → 1 < length v → (markedDigit (getD v 0 0) ≡ 0 → ⊥) → numberIn 10 v ≡ decimalOf v
 decimal-number [] l h = absurd (omega arith)
 decimal-number (b ∷ []) l h = absurd (omega arith)
-decimal-number (b ∷ c ∷ v) l h = decimal-plain (b ∷ c ∷ v) (rw (ne-eqb b 48 h))
+decimal-number (b ∷ c ∷ v) l h = decimal-plain (b ∷ c ∷ v) (rw (ne-eqb b 48 (λ e. h (ap markedDigit e))))
+
+-- the number of a protect digit
+protect-by : (b : ℕ) (p q : Bool) → eqb b 48 ≡ p → eqb b 49 ≡ q → numberIn 2 (b ∷ []) ≡ protectOf (b ∷ [])
+unfolding all numberFrom numberIn protectOf same
+protect-by b true q ep eq = rw (eqb-true b 48 ep)
+protect-by b false true ep eq = rw (eqb-true b 49 eq)
+protect-by b false false ep eq = rw (ep, eq, other (ltb (markedDigit b) 2) refl)
+  where
+    other : (t : Bool) → ltb (markedDigit b) 2 ≡ t → ltb (markedDigit b) 2 ≡ false
+    other true e =
+        let l = ltb-true (markedDigit b) 2 e in
+        let z = eqb-false b 48 ep in
+        let o = eqb-false b 49 eq in
+        absurd (omega (arith, decimal-byte b (omega arith)))
+    other false e = e
+
+pub protect-number : (v : List ℕ) → length v ≡ 1 → numberIn 2 v ≡ protectOf v
+protect-number [] l = absurd (omega arith)
+protect-number (b ∷ []) l = protect-by b (eqb b 48) (eqb b 49) refl refl
+protect-number (b ∷ c ∷ v) l = absurd (omega arith)
+
+pub protect-other : (v : List ℕ) → (length v ≡ 1 → ⊥) → stops 16 ≡ protectOf v
+unfolding protectOf
+protect-other v h = rw (same-length v (48 ∷ []) h, same-length v (49 ∷ []) h)
 
 -- the number of a word
 word-by : (v : List ℕ) (t : Bool) → length v ≡ 4 → all (digitIn 16) v ≡ t → numberIn 16 v ≡ wordOf v

@@ -1,8 +1,8 @@
 -- Digits: what the marked digit of a byte says of the byte, and the number of some digits in a base.
 use mathlib.Core.Path.{_≡_, refl, sym, ap, _∙_}
-use mathlib.Core.Bool.{Bool, true, false, _&&_}
+use mathlib.Core.Bool.{Bool, true, false}
 use mathlib.Core.List.{List, [], _∷_}
-use Prim.Native.Nat.{ℕ, suc, _+_, _*_, _%_, _^_, _≤_, _<_, zero-le}
+use Prim.Native.Nat.{ℕ, suc, _+_, _*_, _^_, _≤_, _<_, zero-le}
 use native.Mathlib.Nat.{le-trans, le-of-eq, lt-of-lt-of-le, mul-le-mul-right, mul-assoc, mul-comm, mul-one, pow-zero, pow-suc, pow-le-pow-left, pow-le-pow-right}
 use native.Mathlib.Numerals.{add-one}
 use native.Mathlib.Omega.{arith}
@@ -15,24 +15,6 @@ use Rattle.decktext.specs.Walk.{digitIn, numberIn}
 use Rattle.decktext.proofs.Same.{and-true, next}
 
 -- ---- a digit
-
--- a byte outside a range
-outside-by : (low high b : ℕ) (p : Bool) → leb low b ≡ p → (low ≤ b → high < b) → (leb low b && leb b high) ≡ false
-outside-by low high b true e h = rw (e, lt-leb b high (h (leb-true low b e)))
-outside-by low high b false e h = rw e
-
-outside : (low high b : ℕ) → (low ≤ b → high < b) → (leb low b && leb b high) ≡ false
-outside low high b h = outside-by low high b (leb low b) refl h
-
--- the marked digit of a byte by its distances from 0 and from A, counted round 256
-pub is-decimal : {b d : ℕ} → (d + 48) % 2 ^ 8 ≡ b → d ≤ 9 → d ≡ markedDigit b
-is-decimal {b} e h = rw (le-leb 48 b (omega arith), le-leb b 57 (omega arith)) (omega arith)
-
-pub is-letter : {b l : ℕ} → (l + 65) % 2 ^ 8 ≡ b → l ≤ 5 → l + 10 ≡ markedDigit b
-is-letter {b} e h = rw (le-leb 48 b (omega arith), lt-leb b 57 (omega arith), le-leb 65 b (omega arith), le-leb b 70 (omega arith)) (omega arith)
-
-pub is-none : {b d l : ℕ} → (d + 48) % 2 ^ 8 ≡ b → (l + 65) % 2 ^ 8 ≡ b → d < 2 ^ 8 → l < 2 ^ 8 → 9 < d → 5 < l → 16 ≡ markedDigit b
-is-none {b} e g m n h k = rw (outside 48 57 b (λ a. omega arith), outside 65 70 b (λ a. omega arith))
 
 data Marked (b : ℕ) : Type 0 where
   decimal : isDigit b ≡ true → isHexadecimal b ≡ true → digitOf b ≤ 9 → Marked b
@@ -79,6 +61,18 @@ hexadecimal-by b (none d h) = rw h
 
 pub hexadecimal-digit : (b : ℕ) → digitIn 16 b ≡ isHexadecimal b
 hexadecimal-digit b = hexadecimal-by b (marked b)
+
+decimal-byte-by : (b : ℕ) → Marked b → markedDigit b < 10 → b ≡ 48 + markedDigit b
+decimal-byte-by b (decimal d h l) m =
+    let a = and-true (leb 48 b) (leb b 57) d in
+    let low = leb-true 48 b (a .0) in
+    rw (h, a .1) (omega arith)
+decimal-byte-by b (letter d h l g) m = let k : digitOf b < 10 = rw h at m in absurd (omega arith)
+decimal-byte-by b (none d h) m = let k : 16 < 10 = rw h at m in absurd (omega arith)
+
+-- the byte of a digit below ten
+pub decimal-byte : (b : ℕ) → markedDigit b < 10 → b ≡ 48 + markedDigit b
+decimal-byte b m = decimal-byte-by b (marked b) m
 
 pub all-same : (f g : ℕ → Bool) → ((b : ℕ) → f b ≡ g b) → (v : List ℕ) → all f v ≡ all g v
 unfolding all

@@ -4,6 +4,7 @@ mod Tags
 mod Tested
 mod Held
 mod Digits
+mod Table
 mod Names
 mod Slots
 mod Decimals

@@ -9,9 +9,7 @@ use lib.Seq.{drop-cons}
 use lib.ListN.{length, getD, drop, drop-of-length-le}
 use lib.Dec.{eqb}
 use borrow.Author.Tests.{eqb-true, eq-eqb}
-use Rattle.hexfloat.specs.Answer.{stops}
 use Rattle.decktext.specs.Text.{same}
-use Rattle.decktext.specs.Value.{protectOf}
 
 pub same-refl : (v : List ℕ) → same v v ≡ true
 unfolding same
@@ -60,10 +58,6 @@ pub single : (v : List ℕ) → length v ≡ 1 → v ≡ getD v 0 0 ∷ []
 single [] h = absurd (omega arith)
 single (x ∷ []) h = refl
 single (x ∷ y ∷ v) h = absurd (omega arith)
-
-pub protect-other : (v : List ℕ) → (length v ≡ 1 → ⊥) → stops 16 ≡ protectOf v
-unfolding protectOf
-protect-other v h = rw (same-length v (48 ∷ []) h, same-length v (49 ∷ []) h)
 
 pub same-none : (v : List ℕ) → length v ≡ 0 → same v [] ≡ true
 unfolding same

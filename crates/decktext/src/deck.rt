@@ -1,4 +1,5 @@
 // Reading a deck text: the walk over lines and values stages what they give; a good text is written.
+use crate::digit::digit_table;
 use crate::fault::Fault;
 use crate::given::put_halfwords;
 use crate::given::put_orders;
@@ -19,6 +20,7 @@ use crate::value::Value;
 ghost use mathlib.Core.Path.{_≡_};
 ghost use Prim.Native.Nat.{_≤_};
 ghost use lib.ListN.{length};
+ghost use Rattle.decktext.specs.Table.{DigitTable};
 ghost use Rattle.decktext.specs.Read.{buffers, outcome, saysReading, numberSaid, lineSaid, readText};
 ghost use Rattle.decktext.specs.Walk.{wantedOf, faultOf, endSaid, concluded, Walked};
 
@@ -57,8 +59,9 @@ pub fn read(text: &[u8], cells: &mut [u16], memory: &mut [u16], protect: &mut [u
     if 32768 < text.len() {
         return Reading::NoRoom(0);
     }
+    let digits = digit_table();
     let mut staged = [0u16; 16384];
-    let walked = walk(text, cells, memory, protect, &mut staged);
+    let walked = walk(text, cells, memory, protect, &digits, &mut staged);
     let reading = walked.reading;
     let Reading::Taken(n) = reading else {
         return reading;
@@ -81,9 +84,10 @@ fn walk(
     cells: &[u16],
     memory: &[u16],
     protect: &[u8],
+    digits: &[u8; 256],
     staged: &mut [u16; 16384],
 ) -> Found
-    requires { ⌜ (length (now text) ≤ 32768) × (length (now staged) ≡ 16384) ⌝ }
+    requires { ⌜ (length (now text) ≤ 32768) × (length (now staged) ≡ 16384) × DigitTable (now digits) ⌝ }
     ensures { λ r. ⌜ Walked (now (text .entry)) (buffers (now (cells .entry)) (now (memory .entry)) (now (protect .entry))) (now (staged .exit)) r ⌝ }
 {
     let sizes = sizes_of(cells.len(), memory.len(), protect.len());
@@ -105,7 +109,7 @@ fn walk(
         let mut i = 0;
         while i < wanted {
             let to = find(text, from, end, b' ');
-            let Value::Of(v) = value(w, i, to == end, &text[from..to]) else {
+            let Value::Of(v) = value(w, i, to == end, &text[from..to], digits) else {
                 fault = Fault::Malformed;
                 break 'lines;
             };

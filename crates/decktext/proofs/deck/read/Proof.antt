@@ -1,9 +1,10 @@
 use mathlib.Core.Path.{_≡_, ap}
 use denote.Enum.Declared.{tagOf}
+use Prim.Native.Nat.{ℕ, _≤_}
+use lib.ListN.{length}
 use borrow.Author.Tests.{lt-ltb}
-use Rattle.decktext.specs.declared.deck.Found.{Found}
 use Rattle.decktext.specs.declared.deck.Reading.{Reading}
-use Rattle.decktext.specs.Read.{buffers, readText}
+use Rattle.decktext.specs.Read.{Buffers, buffers, readText}
 use Rattle.decktext.proofs.Laws.{taken-fits}
 use Rattle.decktext.proofs.Readings.{refusal, orders, landing, said-taken, taking}
 use Rattle.decktext.proofs.Tags.{not-first}
@@ -16,12 +17,28 @@ returns : tie.Need-returns
 unfolding readText
 returns c = rw (lt-ltb 32768 _ (c .if1 .taken))
 
--- where the text is taken: what the walk says, the text's limit, and the count
-abbrev found : (c : tie.After-reading) → Found
-found c = c .before .before .walk .result
+-- where the walk has answered: the text and its limit, and the buffers that are lent
+abbrev entry : tie.After-walk → tie.Start
+entry c = c .before .before .before .before .before .before .before .before .before .before .before .before
 
-taken-as : (c : tie.After-reading) → found c .reading ≡ Reading.Taken (c .reading .given .0 .0)
+abbrev lent : tie.After-walk → Buffers
+lent c = buffers (entry c .args .cells .now) (entry c .args .memory .now) (entry c .args .protect .now)
+
+limit : (c : tie.After-walk) → length (entry c .args .text .now) ≤ 32768
+limit c = c .before .before .before .before .before .before .before .if1 .left
+
+-- where the text is taken: the walk, and the count
+abbrev walked : tie.After-reading → tie.After-walk
+walked c = c .before .before
+
+abbrev count : tie.After-reading → ℕ
+count c = c .reading .given .0 .0
+
+taken-as : (c : tie.After-reading) → walked c .walk .result .reading ≡ Reading.Taken (count c)
 taken-as c = c .reading .given .1
+
+digit-table-requires : tie.Need-digit-table-requires
+digit-table-requires c κs = search needs
 
 walk-requires : tie.Need-walk-requires
 walk-requires c κs = search needs
@@ -39,7 +56,7 @@ same-length-3 : tie.Need-same-length-3
 same-length-3 c = search needs
 
 returns-2 : tie.Need-returns-2
-returns-2 c = refusal (c .before .walk .ensures) (c .before .before .before .before .before .before .if1 .left) (λ n e. not-first (c .match .keys2) (ap (tagOf reading-type.the-type) e))
+returns-2 c = refusal (c .before .walk .ensures) (limit (c .before)) (λ n e. not-first (c .match .keys2) (ap (tagOf reading-type.the-type) e))
 
 cast-put-orders : tie.Need-cast-put-orders
 cast-put-orders c = search needs
@@ -48,14 +65,15 @@ mul-put-orders : tie.Need-mul-put-orders
 mul-put-orders c = search needs
 
 put-orders-requires : tie.Need-put-orders-requires
-put-orders-requires c κs = (
-  orders (c .before .before .before .before .before .walk .ensures) (c .before .before .before .before .before .before .before .before .before .before .if1 .left) (c .before .before .before .reading .given .0 .0) (taken-as (c .before .before .before)),
-  taken-fits (c .before .before .before .before .before .before .before .before .before .before .before .before .before .before .before .args .text .now) (buffers (c .before .before .before .before .before .before .before .before .before .before .before .before .before .before .before .args .cells .now) (c .before .before .before .before .before .before .before .before .before .before .before .before .before .before .before .args .memory .now) (c .before .before .before .before .before .before .before .before .before .before .before .before .before .before .before .args .protect .now)) (c .before .before .before .reading .given .0 .0)
-      (said-taken (c .before .before .before .before .before .walk .ensures) (c .before .before .before .before .before .before .before .before .before .before .if1 .left) (c .before .before .before .reading .given .0 .0) (taken-as (c .before .before .before))),
-)
+put-orders-requires c κs =
+    let r = c .before .before .before in
+    let w = walked r in
+    (orders {b = lent w} (w .walk .ensures) (limit w) (count r) (taken-as r), taken-fits (entry w .args .text .now) (lent w) (count r) (said-taken {b = lent w} (w .walk .ensures) (limit w) (count r) (taken-as r)))
 
 put-halfwords-requires : tie.Need-put-halfwords-requires
-put-halfwords-requires c κs = landing (c .before .before .before .before .before .before .before .before .before .before .before .walk .ensures) (c .before .before .before .before .before .before .before .before .before .before .before .before .before .before .before .before .if1 .left) (c .before .before .before .before .before .before .before .before .before .reading .given .0 .0) (taken-as (c .before .before .before .before .before .before .before .before .before))
+put-halfwords-requires c κs =
+    let r = c .before .before .before .before .before .before .before .before .before in
+    landing {b = lent (walked r)} (walked r .walk .ensures) (limit (walked r)) (count r) (taken-as r)
 
 same-length-4 : tie.Need-same-length-4
 same-length-4 c = search needs
@@ -68,7 +86,8 @@ same-length-6 c = search needs
 
 returns-3 : tie.Need-returns-3
 returns-3 c =
-    taking (c .before .before .before .before .before .before .before .before .before .before .before .before .before .before .before .before .walk .ensures) (c .before .before .before .before .before .before .before .before .before .before .before .before .before .before .before .before .before .before .before .before .before .if1 .left) (c .before .before .before .before .before .before .before .before .before .before .before .before .before .before .reading .given .0 .0) (taken-as (c .before .before .before .before .before .before .before .before .before .before .before .before .before .before))
+    let r = c .before .before .before .before .before .before .before .before .before .before .before .before .before .before in
+    taking {b = lent (walked r)} (walked r .walk .ensures) (limit (walked r)) (count r) (taken-as r)
     _ _ _ (c .before .before .before .before .before .before .before .before .before .before .put-orders .ensures) (c .before .before .before .before .put-halfwords .ensures .0) (c .before .before .before .before .put-halfwords .ensures .1)
 
 pub read-spec : {M : Type 1} → statement M
@@ -76,6 +95,7 @@ read-spec =
     tie.close
     (tie.spec
     returns
+    digit-table-requires
     walk-requires
     enum-known-reading
     same-length

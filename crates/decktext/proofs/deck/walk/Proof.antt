@@ -24,16 +24,16 @@ use Rattle.decktext.proofs.deck.walk.Statement.{statement}
 use Rattle.decktext.proofs.deck.walk.Tie as tie
 
 abbrev Inv-loop : tie.InvT-loop
-Inv-loop text cells memory protect staged sizes p at line k fault₀ end next w wanted values₀ from₀ i₀ fault values from i = (fault ≡ fault₀) × Taking (valueAs (wantedOf w)) wanted text at end from i values
+Inv-loop text cells memory protect digits staged sizes p at line k fault₀ end next w wanted values₀ from₀ i₀ fault values from i = (fault ≡ fault₀) × Taking (valueAs (wantedOf w)) wanted text at end from i values
 
 abbrev μ-loop : tie.MeasureT-loop
-μ-loop text cells memory protect staged sizes p at line k fault₀ end next w wanted values₀ from₀ i₀ fault values from i = wanted - i
+μ-loop text cells memory protect digits staged sizes p at line k fault₀ end next w wanted values₀ from₀ i₀ fault values from i = wanted - i
 
 abbrev Inv-lines : tie.InvT-lines
-Inv-lines text cells memory protect staged₀ sizes p₀ at₀ line₀ k₀ fault₀ staged p at line k fault = (fault ≡ Fault.Nothing) × Walking text (buffers cells memory protect) sizes p at line k staged
+Inv-lines text cells memory protect digits staged₀ sizes p₀ at₀ line₀ k₀ fault₀ staged p at line k fault = (fault ≡ Fault.Nothing) × Walking text (buffers cells memory protect) sizes p at line k staged
 
 abbrev μ-lines : tie.MeasureT-lines
-μ-lines text cells memory protect staged₀ sizes p₀ at₀ line₀ k₀ fault₀ staged p at line k fault = length text - at
+μ-lines text cells memory protect digits staged₀ sizes p₀ at₀ line₀ k₀ fault₀ staged p at line k fault = length text - at
 
 -- at the head of the walk: the text, the buffers that are lent, and the progress that the definition has
 abbrev text : tie.At-lines Inv-loop μ-loop Inv-lines μ-lines → List ℕ

@@ -1,5 +1,5 @@
 use Rattle.decktext.proofs.Decimals.{decimal-none, decimal-long, decimal-single, decimal-leading, decimal-number}
-use mathlib.Core.Path.{_∙_}
+use mathlib.Core.Path.{sym, _∙_}
 use native.Mathlib.Omega.{arith}
 use borrow.Author.Needs.{needs}
 use Rattle.decktext.proofs.value.decimal.Statement.{statement}
@@ -17,17 +17,20 @@ number-requires c κs = search needs
 returns-3 : tie.Need-returns-3
 returns-3 c = c .number .ensures ∙ decimal-single _ (omega arith)
 
-shared-slice-read-if4 : tie.Need-shared-slice-read-if4
-shared-slice-read-if4 c = search needs
+shared-slice-read-digit : tie.Need-shared-slice-read-digit
+shared-slice-read-digit c = search needs
+
+digit-requires : tie.Need-digit-requires
+digit-requires c κs = search needs
 
 returns-4 : tie.Need-returns-4
-returns-4 c = decimal-leading _ (omega arith) (c .if4 .taken)
+returns-4 c = decimal-leading _ (omega arith) (sym (c .before .digit .ensures) ∙ c .if4 .taken)
 
 number-requires-2 : tie.Need-number-requires-2
 number-requires-2 c κs = search needs
 
 returns-5 : tie.Need-returns-5
-returns-5 c = c .number2 .ensures ∙ decimal-number _ (omega arith) (c .before .if4 .left)
+returns-5 c = c .number2 .ensures ∙ decimal-number _ (omega arith) (λ z. c .before .if4 .left (c .before .before .digit .ensures ∙ z))
 
 pub decimal-spec : {M : Type 1} → statement M
 decimal-spec =
@@ -37,7 +40,8 @@ decimal-spec =
     returns-2
     number-requires
     returns-3
-    shared-slice-read-if4
+    shared-slice-read-digit
+    digit-requires
     returns-4
     number-requires-2
     returns-5)

@@ -7,10 +7,10 @@ use Rattle.decktext.proofs.value.number.Statement.{statement}
 use Rattle.decktext.proofs.value.number.Tie as tie
 
 abbrev Inv-loop : tie.InvT-loop
-Inv-loop v base n₀ i₀ n i = Number base v n i
+Inv-loop v base digits n₀ i₀ n i = Number base v n i
 
 abbrev μ-loop : tie.MeasureT-loop
-μ-loop v base n₀ i₀ n i = length v - i
+μ-loop v base digits n₀ i₀ n i = length v - i
 
 loop-holds : tie.Need-loop-holds Inv-loop μ-loop
 loop-holds c = start (c .before .args .base) (c .before .args .v .now)
@@ -45,8 +45,8 @@ loop-again c = on (c .before .before .before .before .loop .inv) (c .before .dig
 returns-2 : tie.Need-returns-2 Inv-loop μ-loop
 returns-2 c = end-large (c .before .before .loop .inv) (c .before .loop-test .left) (c .if2 .taken)
 
-cast-t13 : tie.Need-cast-t13 Inv-loop μ-loop
-cast-t13 c = omega arith
+cast-t14 : tie.Need-cast-t14 Inv-loop μ-loop
+cast-t14 c = omega arith
 
 returns-3 : tie.Need-returns-3 Inv-loop μ-loop
 returns-3 c = end (c .before .before .loop .inv) (c .before .loop-test .left) (c .if2 .left)
@@ -68,5 +68,5 @@ number-spec =
     loop-less
     loop-again
     returns-2
-    cast-t13
+    cast-t14
     returns-3)
