@@ -13,6 +13,7 @@ use crate::line::sizes_of;
 use crate::line::start;
 use crate::line::value;
 use crate::line::values_wanted;
+use crate::mnemonic::slot_table;
 use crate::reader::LineSpan;
 use crate::reader::next_line;
 use crate::span::find;
@@ -21,6 +22,7 @@ ghost use mathlib.Core.Path.{_≡_};
 ghost use Prim.Native.Nat.{_≤_};
 ghost use lib.ListN.{length};
 ghost use Rattle.decktext.specs.Table.{DigitTable};
+ghost use Rattle.decktext.specs.Key.{SlotTable};
 ghost use Rattle.decktext.specs.Read.{buffers, outcome, saysReading, numberSaid, lineSaid, readText};
 ghost use Rattle.decktext.specs.Walk.{wantedOf, faultOf, endSaid, concluded, Walked};
 
@@ -60,8 +62,9 @@ pub fn read(text: &[u8], cells: &mut [u16], memory: &mut [u16], protect: &mut [u
         return Reading::NoRoom(0);
     }
     let digits = digit_table();
+    let slots = slot_table();
     let mut staged = [0u16; 16384];
-    let walked = walk(text, cells, memory, protect, &digits, &mut staged);
+    let walked = walk(text, cells, memory, protect, &digits, &slots, &mut staged);
     let reading = walked.reading;
     let Reading::Taken(n) = reading else {
         return reading;
@@ -85,9 +88,10 @@ fn walk(
     memory: &[u16],
     protect: &[u8],
     digits: &[u8; 256],
+    slots: &[u64; 64],
     staged: &mut [u16; 16384],
 ) -> Found
-    requires { ⌜ (length (now text) ≤ 32768) × (length (now staged) ≡ 16384) × DigitTable (now digits) ⌝ }
+    requires { ⌜ (length (now text) ≤ 32768) × (length (now staged) ≡ 16384) × DigitTable (now digits) × SlotTable (now slots) ⌝ }
     ensures { λ r. ⌜ Walked (now (text .entry)) (buffers (now (cells .entry)) (now (memory .entry)) (now (protect .entry))) (now (staged .exit)) r ⌝ }
 {
     let sizes = sizes_of(cells.len(), memory.len(), protect.len());
@@ -109,7 +113,7 @@ fn walk(
         let mut i = 0;
         while i < wanted {
             let to = find(text, from, end, b' ');
-            let Value::Of(v) = value(w, i, to == end, &text[from..to], digits) else {
+            let Value::Of(v) = value(w, i, to == end, &text[from..to], digits, slots) else {
                 fault = Fault::Malformed;
                 break 'lines;
             };

@@ -17,6 +17,7 @@ ghost use Rattle.decktext.specs.Text.{same};
 ghost use lib.Dec.{eqb};
 ghost use Rattle.decktext.specs.Value.{saysValue, mnemonicCode, decimalOf, protectOf, wordOf};
 ghost use Rattle.decktext.specs.Table.{DigitTable};
+ghost use Rattle.decktext.specs.Key.{SlotTable};
 ghost use Rattle.decktext.specs.Format.{legal};
 ghost use Rattle.decktext.specs.Read.{Buffers, start as begun, headed, orderFits, halfwordFits, afterHeading, bufferedWith, progressed};
 ghost use Rattle.decktext.specs.Walk.{wantedOf, halfwordAs, givenOf, saysJudged, progressOf, Sized, valueCount, valueAs, inPlace, judgedLine};
@@ -82,12 +83,19 @@ pub fn values_wanted(w: Wanted, bytes: usize) -> usize
 
 // Value i of a line; the last one alone ends the line. Two tests, and no `match`, since the jump
 // through a table at each value took a tenth of the reader's time.
-pub fn value(w: Wanted, i: usize, ends: bool, v: &[u8], digits: &[u8; 256]) -> Value
-    requires { ⌜ DigitTable (now digits) ⌝ }
+pub fn value(
+    w: Wanted,
+    i: usize,
+    ends: bool,
+    v: &[u8],
+    digits: &[u8; 256],
+    slots: &[u64; 64],
+) -> Value
+    requires { ⌜ DigitTable (now digits) × SlotTable (now slots) ⌝ }
     ensures { λ r. ⌜ saysValue r ≡ valueAs (wantedOf w) i ends (now (v .entry)) ⌝ }
 {
     if let Wanted::Order = w {
-        return in_place(i, ends, 3, order_value(i, v, digits));
+        return in_place(i, ends, 3, order_value(i, v, digits, slots));
     }
     if let Wanted::Halfword = w {
         return in_place(i, ends, 2, halfword_value(i, v, digits));
@@ -95,12 +103,12 @@ pub fn value(w: Wanted, i: usize, ends: bool, v: &[u8], digits: &[u8; 256]) -> V
     Value::Malformed
 }
 
-fn order_value(i: usize, v: &[u8], digits: &[u8; 256]) -> Value
-    requires { ⌜ DigitTable (now digits) ⌝ }
+fn order_value(i: usize, v: &[u8], digits: &[u8; 256], slots: &[u64; 64]) -> Value
+    requires { ⌜ DigitTable (now digits) × SlotTable (now slots) ⌝ }
     ensures { λ r. ⌜ saysValue r ≡ cond (eqb i 0) (mnemonicCode (now (v .entry))) (decimalOf (now (v .entry))) ⌝ }
 {
     if i == 0 {
-        mnemonic_code(v)
+        mnemonic_code(v, slots)
     } else {
         decimal(v, digits)
     }

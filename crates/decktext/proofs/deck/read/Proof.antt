@@ -19,13 +19,13 @@ returns c = rw (lt-ltb 32768 _ (c .if1 .taken))
 
 -- where the walk has answered: the text and its limit, and the buffers that are lent
 abbrev entry : tie.After-walk → tie.Start
-entry c = c .before .before .before .before .before .before .before .before .before .before .before .before
+entry c = c .before .before .before .before .before .before .before .before .before .before .before .before .before .before
 
 abbrev lent : tie.After-walk → Buffers
 lent c = buffers (entry c .args .cells .now) (entry c .args .memory .now) (entry c .args .protect .now)
 
 limit : (c : tie.After-walk) → length (entry c .args .text .now) ≤ 32768
-limit c = c .before .before .before .before .before .before .before .if1 .left
+limit c = c .before .before .before .before .before .before .before .before .before .if1 .left
 
 -- where the text is taken: the walk, and the count
 abbrev walked : tie.After-reading → tie.After-walk
@@ -39,6 +39,9 @@ taken-as c = c .reading .given .1
 
 digit-table-requires : tie.Need-digit-table-requires
 digit-table-requires c κs = search needs
+
+slot-table-requires : tie.Need-slot-table-requires
+slot-table-requires c κs = search needs
 
 walk-requires : tie.Need-walk-requires
 walk-requires c κs = search needs
@@ -96,6 +99,7 @@ read-spec =
     (tie.spec
     returns
     digit-table-requires
+    slot-table-requires
     walk-requires
     enum-known-reading
     same-length

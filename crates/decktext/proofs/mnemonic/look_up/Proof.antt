@@ -1,26 +1,28 @@
-use Rattle.decktext.specs.Key.{slotOf}
-use Rattle.decktext.proofs.Slots.{in-slot, not-in-slot}
-use mathlib.Core.Path.{sym}
+use borrow.Author.Tests.{eq-eqb, ne-eqb}
 use borrow.Author.Needs.{needs}
+use Rattle.decktext.specs.Key.{slotOf}
 use Rattle.decktext.proofs.mnemonic.look_up.Statement.{statement}
 use Rattle.decktext.proofs.mnemonic.look_up.Tie as tie
 
-mul-entry : tie.Need-mul-entry
-mul-entry c = search needs
+mul-e : tie.Need-mul-e
+mul-e c = search needs
 
-entry-requires : tie.Need-entry-requires
-entry-requires c κs = search needs
+mul-e-2 : tie.Need-mul-e-2
+mul-e-2 c = search needs
 
-cast-t9 : tie.Need-cast-t9
-cast-t9 c = search needs
+element-copy-out-e : tie.Need-element-copy-out-e
+element-copy-out-e c = search needs
+
+cast-t15 : tie.Need-cast-t15
+cast-t15 c = search needs
 
 returns : tie.Need-returns
 unfolding slotOf
-returns c = rw (c .before .entry .ensures) (sym (in-slot (c .before .before .args .key) (rw (c .before .entry .ensures) at (c .if1 .taken))))
+returns c = rw (eq-eqb _ _ (c .if1 .taken)) at (c .before .before .pre .1 .entry (c .before .before .args .key))
 
 returns-2 : tie.Need-returns-2
 unfolding slotOf
-returns-2 c = sym (not-in-slot (c .before .before .args .key) (rw (c .before .entry .ensures) at (c .if1 .left)))
+returns-2 c = rw (ne-eqb _ _ (c .if1 .left)) at (c .before .before .pre .1 .entry (c .before .before .args .key))
 
 pub look-up-spec : {M : Type 1} → statement M
-look-up-spec = tie.close (tie.spec mul-entry entry-requires cast-t9 returns returns-2)
+look-up-spec = tie.close (tie.spec mul-e mul-e-2 element-copy-out-e cast-t15 returns returns-2)
