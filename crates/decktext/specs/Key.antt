@@ -28,7 +28,8 @@ codeByKey k = codeAmongKeys mnemonics 1 k
 unfoldable pub slotOf : ℕ → ℕ
 slotOf k = k * 1725579 / 0x4000000 % 64
 
--- what the entry of a slot says of a key: the code of the mnemonic that stands there, or that the key is no mnemonic's. An entry is a mnemonic's key times 64, and the code; 0 where the slot is empty
+-- what the entry of a slot says of a key: the code of the mnemonic that stands there, or that the key is no mnemonic's
+-- (an entry is a mnemonic's key times 64, and the code; 0 where the slot is empty)
 abbrev pub codeInSlot : ℕ → ℕ → Answer ℕ
 codeInSlot e k = cond (eqb (e / 64) k) (gives (e % 64)) (stops 16)
 
