@@ -4,7 +4,7 @@ mod Tags
 mod Tested
 mod Held
 mod Digits
-mod Table
+mod DigitTable
 mod Names
 mod Slots
 mod Decimals

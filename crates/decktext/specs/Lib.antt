@@ -1,7 +1,7 @@
 pub mod Text
 pub mod Fault
 pub mod Value
-pub mod Table
+pub mod DigitTable
 pub mod Format
 pub mod Read
 pub mod Key

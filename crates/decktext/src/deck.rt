@@ -21,7 +21,7 @@ use crate::value::Value;
 ghost use mathlib.Core.Path.{_≡_};
 ghost use Prim.Native.Nat.{_≤_};
 ghost use lib.ListN.{length};
-ghost use Rattle.decktext.specs.Table.{DigitTable};
+ghost use Rattle.decktext.specs.DigitTable.{DigitTable};
 ghost use Rattle.decktext.specs.Key.{SlotTable};
 ghost use Rattle.decktext.specs.Read.{buffers, outcome, saysReading, numberSaid, lineSaid, readText};
 ghost use Rattle.decktext.specs.Walk.{wantedOf, faultOf, endSaid, concluded, Walked};
@@ -87,8 +87,8 @@ fn walk(
     cells: &[u16],
     memory: &[u16],
     protect: &[u8],
-    digits: &[u8; 256],
-    slots: &[u64; 64],
+    digits: &[u8],
+    slots: &[u64],
     staged: &mut [u16; 16384],
 ) -> Found
     requires { ⌜ (length (now text) ≤ 32768) × (length (now staged) ≡ 16384) × DigitTable (now digits) × SlotTable (now slots) ⌝ }

@@ -1,10 +1,10 @@
 // Hexadecimal digits by table.
 ghost use mathlib.Core.Path.{_≡_};
 ghost use Rattle.decktext.specs.Value.{markedDigit};
-ghost use Rattle.decktext.specs.Table.{DigitTable};
+ghost use Rattle.decktext.specs.DigitTable.{DigitTable};
 
 // The value of a digit 0-9 A-F, or 16 for a byte that is none.
-pub fn digit(b: u8, digits: &[u8; 256]) -> u8
+pub fn digit(b: u8, digits: &[u8]) -> u8
     requires { ⌜ DigitTable (now digits) ⌝ }
     ensures { λ r. ⌜ r ≡ markedDigit b ⌝ }
 {

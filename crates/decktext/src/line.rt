@@ -16,7 +16,7 @@ ghost use Rattle.hexfloat.specs.Answer.{gives, provided, andThen};
 ghost use Rattle.decktext.specs.Text.{same};
 ghost use lib.Dec.{eqb};
 ghost use Rattle.decktext.specs.Value.{saysValue, mnemonicCode, decimalOf, protectOf, wordOf};
-ghost use Rattle.decktext.specs.Table.{DigitTable};
+ghost use Rattle.decktext.specs.DigitTable.{DigitTable};
 ghost use Rattle.decktext.specs.Key.{SlotTable};
 ghost use Rattle.decktext.specs.Format.{legal};
 ghost use Rattle.decktext.specs.Read.{Buffers, start as begun, headed, orderFits, halfwordFits, afterHeading, bufferedWith, progressed};
@@ -83,14 +83,7 @@ pub fn values_wanted(w: Wanted, bytes: usize) -> usize
 
 // Value i of a line; the last one alone ends the line. Two tests, and no `match`, since the jump
 // through a table at each value took a tenth of the reader's time.
-pub fn value(
-    w: Wanted,
-    i: usize,
-    ends: bool,
-    v: &[u8],
-    digits: &[u8; 256],
-    slots: &[u64; 64],
-) -> Value
+pub fn value(w: Wanted, i: usize, ends: bool, v: &[u8], digits: &[u8], slots: &[u64]) -> Value
     requires { ⌜ DigitTable (now digits) × SlotTable (now slots) ⌝ }
     ensures { λ r. ⌜ saysValue r ≡ valueAs (wantedOf w) i ends (now (v .entry)) ⌝ }
 {
@@ -103,7 +96,7 @@ pub fn value(
     Value::Malformed
 }
 
-fn order_value(i: usize, v: &[u8], digits: &[u8; 256], slots: &[u64; 64]) -> Value
+fn order_value(i: usize, v: &[u8], digits: &[u8], slots: &[u64]) -> Value
     requires { ⌜ DigitTable (now digits) × SlotTable (now slots) ⌝ }
     ensures { λ r. ⌜ saysValue r ≡ cond (eqb i 0) (mnemonicCode (now (v .entry))) (decimalOf (now (v .entry))) ⌝ }
 {
@@ -114,7 +107,7 @@ fn order_value(i: usize, v: &[u8], digits: &[u8; 256], slots: &[u64; 64]) -> Val
     }
 }
 
-fn halfword_value(i: usize, v: &[u8], digits: &[u8; 256]) -> Value
+fn halfword_value(i: usize, v: &[u8], digits: &[u8]) -> Value
     requires { ⌜ DigitTable (now digits) ⌝ }
     ensures { λ r. ⌜ saysValue r ≡ cond (eqb i 0) (decimalOf (now (v .entry))) (cond (eqb i 1) (protectOf (now (v .entry))) (wordOf (now (v .entry)))) ⌝ }
 {

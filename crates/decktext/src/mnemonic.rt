@@ -7,7 +7,7 @@ ghost use lib.ListN.{length};
 ghost use Prim.Native.Nat.{_≤_, _<_};
 
 // The code of a mnemonic.
-pub fn mnemonic_code(v: &[u8], slots: &[u64; 64]) -> Value
+pub fn mnemonic_code(v: &[u8], slots: &[u64]) -> Value
     requires { ⌜ SlotTable (now slots) ⌝ }
     ensures { λ r. ⌜ saysValue r ≡ mnemonicCode (now (v .entry)) ⌝ }
 {
@@ -32,7 +32,7 @@ fn key(v: &[u8]) -> u64
 }
 
 // One multiplication finds the only slot where the key can stand.
-fn look_up(key: u64, slots: &[u64; 64]) -> Value
+fn look_up(key: u64, slots: &[u64]) -> Value
     requires { ⌜ (key < 34359738368) × SlotTable (now slots) ⌝ }
     ensures { λ r. ⌜ saysValue r ≡ codeByKey key ⌝ }
 {

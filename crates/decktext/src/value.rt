@@ -4,7 +4,7 @@ ghost use mathlib.Core.Path.{_≡_};
 ghost use Prim.Native.Nat.{_≤_, _<_};
 ghost use lib.ListN.{length};
 ghost use Rattle.decktext.specs.Value.{saysValue, decimalOf, protectOf, wordOf};
-ghost use Rattle.decktext.specs.Table.{DigitTable};
+ghost use Rattle.decktext.specs.DigitTable.{DigitTable};
 ghost use Rattle.decktext.specs.Walk.{numberIn};
 
 pub enum Value {
@@ -14,7 +14,7 @@ pub enum Value {
 
 // No leading zero and at most 65,535, so at most five digits.
 // One digit is a number, 0 too: no branch on it, which the processor would often guess wrongly.
-pub fn decimal(v: &[u8], digits: &[u8; 256]) -> Value
+pub fn decimal(v: &[u8], digits: &[u8]) -> Value
     requires { ⌜ DigitTable (now digits) ⌝ }
     ensures { λ r. ⌜ saysValue r ≡ decimalOf (now (v .entry)) ⌝ }
 {
@@ -34,7 +34,7 @@ pub fn decimal(v: &[u8], digits: &[u8; 256]) -> Value
 }
 
 // One digit, 0 or 1.
-pub fn protect(v: &[u8], digits: &[u8; 256]) -> Value
+pub fn protect(v: &[u8], digits: &[u8]) -> Value
     requires { ⌜ DigitTable (now digits) ⌝ }
     ensures { λ r. ⌜ saysValue r ≡ protectOf (now (v .entry)) ⌝ }
 {
@@ -45,7 +45,7 @@ pub fn protect(v: &[u8], digits: &[u8; 256]) -> Value
 }
 
 // Four digits.
-pub fn word(v: &[u8], digits: &[u8; 256]) -> Value
+pub fn word(v: &[u8], digits: &[u8]) -> Value
     requires { ⌜ DigitTable (now digits) ⌝ }
     ensures { λ r. ⌜ saysValue r ≡ wordOf (now (v .entry)) ⌝ }
 {
@@ -56,7 +56,7 @@ pub fn word(v: &[u8], digits: &[u8; 256]) -> Value
 }
 
 // The number of some digits in a base.
-fn number(v: &[u8], base: u32, digits: &[u8; 256]) -> Value
+fn number(v: &[u8], base: u32, digits: &[u8]) -> Value
     requires { ⌜ (length (now v) ≤ 5) × (0 < base) × (base ≤ 16) × DigitTable (now digits) ⌝ }
     ensures { λ r. ⌜ saysValue r ≡ numberIn base (now (v .entry)) ⌝ }
 {

@@ -43,6 +43,12 @@ digit-table-requires c κs = search needs
 slot-table-requires : tie.Need-slot-table-requires
 slot-table-requires c κs = search needs
 
+slice-aggregate-walk : tie.Need-slice-aggregate-walk
+slice-aggregate-walk c = search needs
+
+slice-aggregate-walk-2 : tie.Need-slice-aggregate-walk-2
+slice-aggregate-walk-2 c = search needs
+
 walk-requires : tie.Need-walk-requires
 walk-requires c κs = search needs
 
@@ -100,6 +106,8 @@ read-spec =
     returns
     digit-table-requires
     slot-table-requires
+    slice-aggregate-walk
+    slice-aggregate-walk-2
     walk-requires
     enum-known-reading
     same-length

@@ -37,16 +37,16 @@ abbrev μ-lines : tie.MeasureT-lines
 
 -- at the head of the walk: the text, the buffers that are lent, and the progress that the definition has
 abbrev text : tie.At-lines Inv-loop μ-loop Inv-lines μ-lines → List ℕ
-text c = c .before .before .before .before .before .before .before .args .text .now
+text c = c .before .before .before .before .before .before .before .before .before .args .text .now
 
 abbrev lent : tie.At-lines Inv-loop μ-loop Inv-lines μ-lines → Buffers
-lent c = buffers (c .before .before .before .before .before .before .before .args .cells .now) (c .before .before .before .before .before .before .before .args .memory .now) (c .before .before .before .before .before .before .before .args .protect .now)
+lent c = buffers (c .before .before .before .before .before .before .before .before .before .args .cells .now) (c .before .before .before .before .before .before .before .before .before .args .memory .now) (c .before .before .before .before .before .before .before .before .before .args .protect .now)
 
 abbrev progress : tie.At-lines Inv-loop μ-loop Inv-lines μ-lines → Progress
 progress c = reached (c .lines .p) (c .lines .halfwords) (c .lines .staged) (lent c)
 
 limit : (c : tie.At-lines Inv-loop μ-loop Inv-lines μ-lines) → length (text c) ≤ 32768
-limit c = c .before .before .before .before .before .before .before .pre .0
+limit c = c .before .before .before .before .before .before .before .before .before .pre .0
 
 abbrev wanted-at : tie.At-lines Inv-loop μ-loop Inv-lines μ-lines → Wanted
 wanted-at c = wantedOf (c .lines .p .wanted)
@@ -123,7 +123,7 @@ start-requires : tie.Need-start-requires Inv-loop μ-loop Inv-lines μ-lines
 start-requires c κs = search needs
 
 lines-holds : tie.Need-lines-holds Inv-loop μ-loop Inv-lines μ-lines
-lines-holds c = (refl, start (record { cells = sym (c .before .sizes-of .ensures .0); memory = sym (c .before .sizes-of .ensures .1); protect = sym (c .before .sizes-of .ensures .2) }) (c .start .ensures (buffers (c .before .before .before .before .before .before .args .cells .now) (c .before .before .before .before .before .before .args .memory .now) (c .before .before .before .before .before .before .args .protect .now))) (c .before .before .before .before .before .before .pre .1))
+lines-holds c = (refl, start (record { cells = sym (c .before .sizes-of .ensures .0); memory = sym (c .before .sizes-of .ensures .1); protect = sym (c .before .sizes-of .ensures .2) }) (c .start .ensures (buffers (c .before .before .before .before .before .before .before .before .args .cells .now) (c .before .before .before .before .before .before .before .before .args .memory .now) (c .before .before .before .before .before .before .before .before .args .protect .now))) (c .before .before .before .before .before .before .before .before .pre .1))
 
 next-line-requires : tie.Need-next-line-requires Inv-loop μ-loop Inv-lines μ-lines
 next-line-requires c κs = search needs

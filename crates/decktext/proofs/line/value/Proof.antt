@@ -50,7 +50,7 @@ unfolding valueAs
 returns-2 c = rw (c .before .before .enum-told2 .given .1) (c .in-place2 .ensures ∙ rw (c .before .halfword-value .ensures))
 
 returns-3 : tie.Need-returns-3
-returns-3 c = no-value (c .before .before .before .args .w) (c .before .before .before .args .i) (c .before .before .before .args .ends) (c .before .before .before .args .v .now) (c .before .match .keys2) (c .match2 .keys2)
+returns-3 c = no-value (c .before .before .before .before .before .args .w) (c .before .before .before .before .before .args .i) (c .before .before .before .before .before .args .ends) (c .before .before .before .before .before .args .v .now) (c .before .match .keys2) (c .match2 .keys2)
 
 pub value-spec : {M : Type 1} → statement M
 value-spec =

@@ -10,11 +10,11 @@ mul-e c = search needs
 mul-e-2 : tie.Need-mul-e-2
 mul-e-2 c = search needs
 
-element-copy-out-e : tie.Need-element-copy-out-e
-element-copy-out-e c = search needs
+shared-slice-read-e : tie.Need-shared-slice-read-e
+shared-slice-read-e c = search needs
 
-cast-t15 : tie.Need-cast-t15
-cast-t15 c = search needs
+cast-t14 : tie.Need-cast-t14
+cast-t14 c = search needs
 
 returns : tie.Need-returns
 unfolding slotOf
@@ -25,4 +25,4 @@ unfolding slotOf
 returns-2 c = rw (ne-eqb _ _ (c .if1 .left)) at (c .before .before .pre .1 .entry (c .before .before .args .key))
 
 pub look-up-spec : {M : Type 1} → statement M
-look-up-spec = tie.close (tie.spec mul-e mul-e-2 element-copy-out-e cast-t15 returns returns-2)
+look-up-spec = tie.close (tie.spec mul-e mul-e-2 shared-slice-read-e cast-t14 returns returns-2)

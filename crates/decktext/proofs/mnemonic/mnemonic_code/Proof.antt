@@ -19,7 +19,7 @@ returns-2 : tie.Need-returns-2
 returns-2 c =
     c .look-up .ensures
     ∙ ap codeByKey (c .before .key .ensures .0)
-    ∙ sym (code-by-key (c .before .before .before .before .args .v .now) (λ i h. omega (arith, c .before .before .before .shared-slice-known .given i)) (c .before .before .if1 .left))
+    ∙ sym (code-by-key (c .before .before .before .before .before .args .v .now) (λ i h. omega (arith, c .before .before .before .before .shared-slice-known .given i)) (c .before .before .if1 .left))
 
 pub mnemonic-code-spec : {M : Type 1} → statement M
 mnemonic-code-spec = tie.close (tie.spec returns key-requires look-up-requires returns-2)

@@ -13,7 +13,7 @@ abbrev μ-loop : tie.MeasureT-loop
 μ-loop v base digits n₀ i₀ n i = length v - i
 
 loop-holds : tie.Need-loop-holds Inv-loop μ-loop
-loop-holds c = start (c .before .args .base) (c .before .args .v .now)
+loop-holds c = start (c .before .before .args .base) (c .before .before .args .v .now)
 
 shared-slice-read-digit : tie.Need-shared-slice-read-digit Inv-loop μ-loop
 shared-slice-read-digit c = omega arith
@@ -28,10 +28,10 @@ returns : tie.Need-returns Inv-loop μ-loop
 returns c = stop (c .before .before .before .before .loop .inv) (c .before .digit .result) (c .before .before .before .loop-test .taken) (c .before .digit .ensures) (c .if1 .taken)
 
 mul-n : tie.Need-mul-n Inv-loop μ-loop
-mul-n c = let h = fits (c .before .before .before .before .loop .inv) 0 (c .before .before .before .before .before .before .pre .1) (c .before .before .before .before .before .before .pre .2) (c .before .before .before .before .before .before .pre .0) (c .before .before .before .loop-test .taken) (c .before .before .before .before .before .before .pre .1) in omega arith
+mul-n c = let h = fits (c .before .before .before .before .loop .inv) 0 (c .before .before .before .before .before .before .before .pre .1) (c .before .before .before .before .before .before .before .pre .2) (c .before .before .before .before .before .before .before .pre .0) (c .before .before .before .loop-test .taken) (c .before .before .before .before .before .before .before .pre .1) in omega arith
 
 add-n : tie.Need-add-n Inv-loop μ-loop
-add-n c = let h = fits (c .before .before .before .before .loop .inv) (c .before .digit .result) (c .before .before .before .before .before .before .pre .1) (c .before .before .before .before .before .before .pre .2) (c .before .before .before .before .before .before .pre .0) (c .before .before .before .loop-test .taken) (c .if1 .left) in omega arith
+add-n c = let h = fits (c .before .before .before .before .loop .inv) (c .before .digit .result) (c .before .before .before .before .before .before .before .pre .1) (c .before .before .before .before .before .before .before .pre .2) (c .before .before .before .before .before .before .before .pre .0) (c .before .before .before .loop-test .taken) (c .if1 .left) in omega arith
 
 add-i : tie.Need-add-i Inv-loop μ-loop
 add-i c = omega arith
@@ -40,7 +40,7 @@ loop-less : tie.Need-loop-less Inv-loop μ-loop
 loop-less c = omega arith
 
 loop-again : tie.Need-loop-again Inv-loop μ-loop
-loop-again c = on (c .before .before .before .before .loop .inv) (c .before .digit .result) (c .before .before .before .loop-test .taken) (c .before .digit .ensures) (c .if1 .left) (c .before .before .before .before .before .before .pre .2)
+loop-again c = on (c .before .before .before .before .loop .inv) (c .before .digit .result) (c .before .before .before .loop-test .taken) (c .before .digit .ensures) (c .if1 .left) (c .before .before .before .before .before .before .before .pre .2)
 
 returns-2 : tie.Need-returns-2 Inv-loop μ-loop
 returns-2 c = end-large (c .before .before .loop .inv) (c .before .loop-test .left) (c .if2 .taken)

@@ -7,7 +7,7 @@ use lib.Dec.{eqb}
 use lib.ListN.{length, getD}
 use borrow.Author.Tests.{eqb-true}
 use Rattle.decktext.specs.Value.{markedDigit}
-use Rattle.decktext.specs.Table.{DigitTable}
+use Rattle.decktext.specs.DigitTable.{DigitTable}
 use Rattle.decktext.proofs.Tested.{allBelow, passes}
 
 unfoldable pub right : List ℕ → ℕ → Bool
