@@ -3,7 +3,7 @@ use mathlib.Core.Path.{_≡_, refl, ap₂}
 use mathlib.Core.Bool.{Bool}
 use mathlib.Core.Logic.{_⊎_, inl, inr, ⊎-elim}
 use Prim.Native.Nat.{ℕ, _+_, _-_, _*_, _/_, _^_, _≤_, _<_}
-use native.Mathlib.Nat.{pos-of-ne-zero, eq-zero-or-pos}
+use native.Mathlib.Nat.{eq-zero-or-pos}
 use native.Mathlib.Omega.{arith}
 use borrow.Author.Tests.{lt-ltb, le-ltb}
 use Rattle.hexfloat.specs.declared.normal.Normal.{Normal}
@@ -15,7 +15,7 @@ use Rattle.hexfloat.specs.Word.{digitsOf, partsOf, wordsOf, magnitude}
 use Rattle.hexfloat.specs.Divide.{quotient, quotientWords}
 use Rattle.hexfloat.specs.Operand.{Operand, IsPlaced, normalised, leadOf}
 use Rattle.hexfloat.proofs.Digits.{pos}
-use Rattle.hexfloat.proofs.Normalised.{normal-most, normal-least, normal-exact, place-most, magnitude-positive}
+use Rattle.hexfloat.proofs.Normalised.{Bounds, bounds}
 use Rattle.hexfloat.proofs.Placed.{placed}
 
 -- a lead is 0 or 1, as the fractions stand to each other
@@ -38,25 +38,6 @@ pub record Ready (d : ℕ) (x y : Parts) (n m : Normal) (lead : ℕ) : Type 0 wh
   pub normal-dividend : n ≡ normalised d x
   pub normal-divisor : m ≡ normalised d y
   pub leads : lead ≡ leadOf (n .fraction) (m .fraction)
-
--- a normalised operand's place and fraction
-pub record Bounds (d : ℕ) (p : Parts) (n : Normal) : Type 0 where
-  pub place : n .place ≤ 141
-  pub most : n .fraction < 16 ^ d
-  pub least : 16 ^ d ≤ n .fraction * 16
-  pub exact : magnitude d p * 16 ^ d ≡ n .fraction * 16 ^ n .place
-  pub positive : 0 < magnitude d p
-
-bounds : {d : ℕ} {p : Parts} {n : Normal} → Operand d p → (p .fraction ≡ 0 → ⊥) → n ≡ normalised d p → Bounds d p n
-bounds o ne e =
-    rw e
-    (record {
-      place = place-most o;
-      most = normal-most o;
-      least = normal-least o (pos-of-ne-zero ne);
-      exact = normal-exact o;
-      positive = magnitude-positive o (pos-of-ne-zero ne);
-    })
 
 module _ {d : ℕ} {x y : Parts} {n m : Normal} {lead : ℕ} (r : Ready d x y n m lead) where
   pub dividend-bounds : Bounds d x n

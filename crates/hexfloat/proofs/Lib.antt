@@ -10,6 +10,7 @@ pub mod Divided
 pub mod Edges
 pub mod Fits
 pub mod Keys
+pub mod Multiplied
 pub mod Normalised
 pub mod Placed
 pub mod Ratio
@@ -19,3 +20,4 @@ pub mod Signs
 pub mod Sums
 pub mod Theorems
 pub mod Turns
+pub mod Wholes

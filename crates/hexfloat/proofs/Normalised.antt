@@ -1,10 +1,11 @@
 -- Laws of a fraction of d digits moved left by its leading zero digits.
 use mathlib.Core.Path.{_≡_, sym, ap, _∙_}
 use Prim.Native.Nat.{ℕ, _+_, _-_, _*_, _/_, _^_, _≤_, _<_}
-use native.Mathlib.Nat.{le-trans, le-of-eq, lt-of-lt-of-le, mul-lt-mul-of-pos-right, mul-le-mul-right, mul-assoc, mul-right-comm, mul-pos, zero-mul}
+use native.Mathlib.Nat.{le-trans, le-of-eq, lt-of-lt-of-le, mul-lt-mul-of-pos-right, mul-le-mul-right, mul-assoc, mul-right-comm, mul-pos, zero-mul, pos-of-ne-zero}
 use native.Mathlib.Omega.{arith}
 use lib.Pow.{pow-add}
 use lib.Count.{leadingZeros}
+use Rattle.hexfloat.specs.declared.normal.Normal.{Normal}
 use Rattle.hexfloat.specs.declared.word.Parts.{Parts}
 use Rattle.hexfloat.specs.Normal.{digits}
 use Rattle.hexfloat.specs.Word.{magnitude}
@@ -59,3 +60,22 @@ module _ {d : ℕ} {p : Parts} (o : Operand d p) where
 pub magnitude-zero : (d : ℕ) (p : Parts) → p .fraction ≡ 0 → magnitude d p ≡ 0
 unfolding magnitude
 magnitude-zero d p e = ap (λ (x : ℕ). x * 16 ^ (p .characteristic + (14 - d))) e ∙ zero-mul (16 ^ (p .characteristic + (14 - d)))
+
+-- a normalised operand's place and fraction
+pub record Bounds (d : ℕ) (p : Parts) (n : Normal) : Type 0 where
+  pub place : n .place ≤ 141
+  pub most : n .fraction < 16 ^ d
+  pub least : 16 ^ d ≤ n .fraction * 16
+  pub exact : magnitude d p * 16 ^ d ≡ n .fraction * 16 ^ n .place
+  pub positive : 0 < magnitude d p
+
+pub bounds : {d : ℕ} {p : Parts} {n : Normal} → Operand d p → (p .fraction ≡ 0 → ⊥) → n ≡ normalised d p → Bounds d p n
+bounds o ne e =
+    rw e
+    (record {
+      place = place-most o;
+      most = normal-most o;
+      least = normal-least o (pos-of-ne-zero ne);
+      exact = normal-exact o;
+      positive = magnitude-positive o (pos-of-ne-zero ne);
+    })

@@ -81,10 +81,9 @@ module _ (d a b f p g q lead : ℕ) (ea : a * 16 ^ d ≡ f * 16 ^ p) (eb : b * 1
       let r = shrunk (16 ^ d) (pos d) (subst₂ (λ (x y : ℕ). Bounded d x y cut) left right (grown (16 ^ (p + q)) (pos (p + q)) of-fractions)) in
       record { characteristic = record { least = r .least; most = r .most }; fraction = record { least = r .cut-least; most = r .cut-most } }
 
--- the same places and fraction in other words
-pub same-place : {d a b up down f up′ down′ f′ : ℕ} → up ≡ up′ → down ≡ down′ → f ≡ f′ → IsPlaced d a b up down f → IsPlaced d a b up′ down′ f′
-same-place {d} {a} {b} {up} {down} {f} {up′} {down′} {f′} eu ed ef r =
-    subst₂ (λ (u v : ℕ). IsPlaced d a b u v f′) eu ed (subst (λ (x : ℕ). IsPlaced d a b up down x) ef r)
+-- the same place and fraction in other words
+pub same-place : {d a b up down f up′ f′ : ℕ} → up ≡ up′ → f ≡ f′ → IsPlaced d a b up down f → IsPlaced d a b up′ down f′
+same-place {d} {a} {b} {up} {down} eu ef r = subst₂ (λ (u x : ℕ). IsPlaced d a b u down x) eu ef r
 
 module _ {d a b up down f : ℕ} (r : IsPlaced d a b up down f) where
   module _ (h : down ≤ up) where

@@ -6,6 +6,7 @@ pub mod Compare
 pub mod Convert
 pub mod Result
 pub mod Divide
+pub mod Multiply
 pub mod Add
 pub mod Operand
 pub mod Edges

@@ -31,6 +31,10 @@ pub record IsPlaced (d a b up down f : ℕ) : Type 0 where
   pub characteristic : IsCharacteristic (a * 16 ^ down) b up
   pub fraction : IsFraction d (a * 16 ^ down) b up f
 
+-- a number of at most 16 digits moved left to the first of 16 digits, and cut to d
+abbrev pub leadingDigits : ℕ → ℕ → ℕ
+leadingDigits d m = m * 16 ^ (16 - digits m) / 16 ^ (16 - d)
+
 -- two normalised fractions, and how many digits of their quotient are wanted: all that a number has, or one less
 pub record Dividends (w : Width) (n a b : ℕ) : Type 0 where
   pub few : n ≤ digitsOf w
@@ -59,3 +63,8 @@ pub record Turning (k rest b : ℕ) : Type 0 where
 pub record Correcting (q rest b : ℕ) : Type 0 where
   pub fits : q < 16 ^ 8
   pub near : rest < 2 * b
+
+-- two fractions of d digits
+pub record Factors (d a b : ℕ) : Type 0 where
+  pub first : a < 16 ^ d
+  pub second : b < 16 ^ d

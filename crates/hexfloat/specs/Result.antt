@@ -1,6 +1,6 @@
 -- Results of arithmetic: an exact ratio of whole numbers as a normalised number of d digits, within the limits of the characteristic (8.3, 8.8;
 -- document 01, 'Divide').
-use Prim.Native.Nat.{ℕ, _*_, _^_}
+use Prim.Native.Nat.{ℕ, _+_, _*_, _%_, _^_}
 use mathlib.Core.Bool.{Bool, true, false, cond}
 use lib.Dec.{ltb, leb, eqb}
 use Rattle.hexfloat.specs.declared.word.Parts.{Parts}
@@ -17,6 +17,10 @@ saysResult (Number a) = gives a
 saysResult ZeroDivisor = stops 8
 saysResult Overflow = stops 9
 saysResult Underflow = stops 10
+
+-- 8.15, 8.16, 8.24, 8.25: the sign of a quotient or a product is determined by the rules of algebra
+abbrev pub signByAlgebra : Parts → Parts → ℕ
+signByAlgebra x y = (x .sign + y .sign) % 2
 
 -- 8.8: under mask 0 an underflow gives true zero, under mask 1 it stops
 abbrev pub underflow : Bool → Answer Parts

@@ -112,14 +112,5 @@ fn normalise_sum(width: Width, mask: bool, c: u32, s: Signed) -> Result
         return Result::Number(Words { high: 0, low: 0 });
     }
     let d = crate::word::digits_of(width);
-    let zeros = u64::leading_zeros(m) / 4;
-    let fraction = (m << (4 * zeros)) >> (4 * (16 - d));
-    crate::result::limited(
-        width,
-        mask,
-        sign,
-        c + 16 - zeros,
-        d + GUARD_DIGITS,
-        fraction,
-    )
+    crate::result::normalised_result(width, mask, sign, c, d + GUARD_DIGITS, m)
 }

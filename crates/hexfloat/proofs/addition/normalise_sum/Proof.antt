@@ -1,20 +1,18 @@
--- `normalise_sum` meets its contract: the leading zero bits over four are the leading zero digits, and the shifts lose what is cut alone.
-use mathlib.Core.Path.{_≡_, sym, ap, _∙_}
-use Prim.Native.Nat.{ℕ, _+_, _-_, _*_, _/_, _%_, _^_, _≤_}
+-- `normalise_sum` meets its contract: the intermediate sum is a whole number whose first digits are kept.
+use mathlib.Core.Path.{_≡_, sym, ap, _∙_, subst⁻¹}
+use Prim.Native.Nat.{ℕ, _+_, _*_, _^_, _≤_}
 use native.Mathlib.Nat.{pos-of-ne-zero, zero-mul}
 use native.Mathlib.Omega.{arith}
 use borrow.Author.Needs.{needs}
-use lib.Count.{leadingZeros}
 use Rattle.hexfloat.specs.declared.word.Width.{Width}
 use Rattle.hexfloat.specs.Add.{resultOfSum}
 use Rattle.hexfloat.specs.Answer.{gives, mapped}
 use Rattle.hexfloat.specs.Normal.{digits}
-use Rattle.hexfloat.specs.Operand.{IsPlaced}
+use Rattle.hexfloat.specs.Operand.{IsPlaced, leadingDigits}
 use Rattle.hexfloat.specs.Word.{digitsOf, wordsOf}
-use Rattle.hexfloat.proofs.Added.{moved-right, sum-placed}
-use Rattle.hexfloat.proofs.Digits.{pos, digits-le, digits-positive, leading-digits}
-use Rattle.hexfloat.proofs.Fits.{width-fits, no-bits, fraction-most}
-use Rattle.hexfloat.proofs.Placed.{same-place}
+use Rattle.hexfloat.proofs.Added.{sum-placed}
+use Rattle.hexfloat.proofs.Digits.{pos, digits-le}
+use Rattle.hexfloat.proofs.Fits.{width-fits, no-bits}
 use Rattle.hexfloat.proofs.Results.{of-zero}
 use Rattle.hexfloat.proofs.addition.normalise_sum.Statement.{statement}
 use Rattle.hexfloat.proofs.addition.normalise_sum.Tie as tie
@@ -40,61 +38,25 @@ module _ (c : tie.After-digits-of) where
   abbrev d-is : c .digits-of .result ≡ digitsOf w
   d-is = c .digits-of .ensures
 
-  few : digits m ≤ 16
-  few = digits-le m 16 (c .before .before .pre .2)
+add-normalised-result : tie.Need-add-normalised-result
+add-normalised-result c = omega (arith, d-is c, width-fits (w c))
 
-  zeros : leadingZeros 64 m / 4 + digits m ≡ 16
-  zeros = leading-digits 16 m (c .before .before .pre .2)
+normalised-result-requires : tie.Need-normalised-result-requires
+normalised-result-requires c κs = (c .before .before .pre .1, (pos-of-ne-zero (c .before .if1 .left), omega (arith, c .before .before .pre .0)))
 
-  -- the two shifts of the code
-  shifted : m * 2 ^ (4 * (leadingZeros 64 m / 4)) % 2 ^ 64 / 2 ^ (4 * (16 - c .digits-of .result)) ≡ m * 16 ^ (16 - digits m) / 16 ^ (16 - digitsOf w)
-  shifted = moved-right (digitsOf w) (c .digits-of .result) m (leadingZeros 64 m / 4) d-is zeros
-
-  placed : IsPlaced (digitsOf w) (m * 16 ^ c .before .before .args .c) (16 ^ (65 + digitsOf w)) (c .before .before .args .c + digits m) (digitsOf w + 1) (m * 16 ^ (16 - digits m) / 16 ^ (16 - digitsOf w))
-  placed = sum-placed (digitsOf w) m (pos-of-ne-zero (c .before .if1 .left)) few (omega (arith, width-fits w)) (c .before .before .args .c)
-
-  up : c .before .before .args .c + 16 - leadingZeros 64 m / 4 ≡ c .before .before .args .c + digits m
-  up = omega (arith, zeros)
-
-mul-fraction : tie.Need-mul-fraction
-mul-fraction c = omega (arith, zeros c)
-
-cast-fraction : tie.Need-cast-fraction
-cast-fraction c = omega (arith, zeros c)
-
-shl-fraction : tie.Need-shl-fraction
-shl-fraction c = omega (arith, zeros c, digits-positive (pos-of-ne-zero (c .before .if1 .left)))
-
-sub-fraction : tie.Need-sub-fraction
-sub-fraction c = omega (arith, d-is c, width-fits (w c))
-
-mul-fraction-2 : tie.Need-mul-fraction-2
-mul-fraction-2 c = search needs
-
-cast-fraction-2 : tie.Need-cast-fraction-2
-cast-fraction-2 c = search needs
-
-shr-fraction : tie.Need-shr-fraction
-shr-fraction c = omega (arith, d-is c, width-fits (w c))
-
-add-limited : tie.Need-add-limited
-add-limited c = search needs
-
-sub-limited : tie.Need-sub-limited
-sub-limited c = omega (arith, zeros c)
-
-add-limited-2 : tie.Need-add-limited-2
-add-limited-2 c = omega (arith, d-is c, width-fits (w c))
-
-limited-requires : tie.Need-limited-requires
-limited-requires c κs = (c .before .before .pre .1, rw (shifted c) (fraction-most (placed c .characteristic) (placed c .fraction)))
+-- where the intermediate sum stands
+placed : (c : tie.After-digits-of) → IsPlaced (digitsOf (w c)) (m c * 16 ^ c .before .before .args .c) (16 ^ (65 + digitsOf (w c))) (c .before .before .args .c + digits (m c)) (c .digits-of .result + 1) (leadingDigits (digitsOf (w c)) (m c))
+placed c =
+    let d : ℕ = digitsOf (w c) in
+    let k : ℕ = c .before .before .args .c in
+    subst⁻¹ (λ (x : ℕ). IsPlaced d (m c * 16 ^ k) (16 ^ (65 + d)) (k + digits (m c)) (x + 1) (leadingDigits d (m c))) (d-is c)
+    (sum-placed d (m c) k (pos-of-ne-zero (c .before .if1 .left)) (digits-le (m c) 16 (c .before .before .pre .2)) (omega (arith, width-fits (w c))))
 
 returns-2 : tie.Need-returns-2
 unfolding resultOfSum
 returns-2 c =
     let l = c .before in
-    c .limited .ensures (m l * 16 ^ l .before .before .args .c) (16 ^ (65 + digitsOf (w l))) (pos (65 + digitsOf (w l)))
-    (same-place (sym (up l)) (ap (λ (x : ℕ). x + 1) (sym (d-is l))) (sym (shifted l)) (placed l))
+    c .normalised-result .ensures (m l * 16 ^ l .before .before .args .c) (16 ^ (65 + digitsOf (w l))) (pos (65 + digitsOf (w l))) (placed l)
 
 pub normalise-sum-spec : {M : Type 1} → statement M
 normalise-sum-spec =
@@ -102,15 +64,6 @@ normalise-sum-spec =
     (tie.spec
     returns
     digits-of-requires
-    mul-fraction
-    cast-fraction
-    shl-fraction
-    sub-fraction
-    mul-fraction-2
-    cast-fraction-2
-    shr-fraction
-    add-limited
-    sub-limited
-    add-limited-2
-    limited-requires
+    add-normalised-result
+    normalised-result-requires
     returns-2)
