@@ -44,7 +44,7 @@ abbrev pub onCells : Verb → ℕ → ℕ → ℕ → Operation
 onCells v a b c = row v Width.Short Place.Nowhere a b c
 
 -- The table from code 1 on: LER, LE, LED, LECR; CER, CE, CEDR, CED; CVFX, CVFL; DER, DE, DEDR, DED; STE, STED, L, ST; UM, JC, JN, HALT;
--- AER, AE, SER, SE; AEDR, AED, SEDR, SED.
+-- AER, AE, SER, SE; AEDR, AED, SEDR, SED; MER, ME, MEDR, MED.
 abbrev pub rows : List Operation
 rows =
     onFloat Verb.Load Width.Short
@@ -77,6 +77,10 @@ rows =
     ∷ onStorage (Verb.Sum Sense.Plus) Width.Long
     ∷ onFloat (Verb.Sum Sense.Minus) Width.Long
     ∷ onStorage (Verb.Sum Sense.Minus) Width.Long
+    ∷ onFloat Verb.Multiply Width.Short
+    ∷ onStorage Verb.Multiply Width.Short
+    ∷ onFloat Verb.Multiply Width.Long
+    ∷ onStorage Verb.Multiply Width.Long
     ∷ []
 
 -- the row of code n among some rows, the first of which has the code k; an unknown code is a 5
@@ -131,6 +135,7 @@ storedAs Verb.Jump w = 0
 storedAs Verb.CountDown w = 0
 storedAs Verb.Halt w = 0
 storedAs (Verb.Sum s) w = 0
+storedAs Verb.Multiply w = 0
 
 abbrev pub storedOf : Operation → ℕ
 storedOf op = storedAs (op .verb) (op .width)
@@ -150,3 +155,4 @@ isHalt Verb.Jump = false
 isHalt Verb.CountDown = false
 isHalt Verb.Halt = true
 isHalt (Verb.Sum s) = false
+isHalt Verb.Multiply = false

@@ -29,6 +29,7 @@ pub enum Verb {
     CountDown,
     Halt,
     Sum(Sense),
+    Multiply,
 }
 
 // Where its second operand is.
@@ -126,6 +127,10 @@ fn look_up(code: u16) -> Legality
         28 => on_storage(Verb::Sum(Sense::Plus), Width::Long), // AED
         29 => on_float(Verb::Sum(Sense::Minus), Width::Long), // SEDR
         30 => on_storage(Verb::Sum(Sense::Minus), Width::Long), // SED
+        31 => on_float(Verb::Multiply, Width::Short), // MER
+        32 => on_storage(Verb::Multiply, Width::Short), // ME
+        33 => on_float(Verb::Multiply, Width::Long), // MEDR
+        34 => on_storage(Verb::Multiply, Width::Long), // MED
         _ => Legality::Illegal,
     }
 }
@@ -196,6 +201,7 @@ pub fn stored(op: Operation) -> u32
         Verb::CountDown => 0,
         Verb::Halt => 0,
         Verb::Sum(_) => 0,
+        Verb::Multiply => 0,
     }
 }
 
@@ -217,5 +223,6 @@ pub fn halts(verb: Verb) -> bool
         Verb::CountDown => false,
         Verb::Halt => true,
         Verb::Sum(_) => false,
+        Verb::Multiply => false,
     }
 }
