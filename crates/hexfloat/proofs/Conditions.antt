@@ -14,6 +14,7 @@ use Rattle.hexfloat.specs.Compare.{compared, comparedWords}
 use Rattle.hexfloat.specs.Convert.{toFixed, toFloat, fixedMagnitude}
 use Rattle.hexfloat.specs.Result.{resultOf, underflow}
 use Rattle.hexfloat.specs.Divide.{quotient, quotientWords}
+use Rattle.hexfloat.specs.Multiply.{product, productWords}
 use Rattle.hexfloat.specs.Add.{addendOf, resultOfSum, sum, summed, summedWords}
 use Rattle.hexfloat.specs.Theorems.{ConditionsSet, Numbered, given, stopped, StopsNumbered}
 
@@ -66,14 +67,19 @@ of-summed : (s : Sense) (d : ℕ) (mask : Bool) (x y : Parts) → Numbered 9 10 
 unfolding summed
 of-summed s d mask x y = of-sum d mask x (addendOf s y)
 
+of-product : (d e : ℕ) (mask : Bool) (x y : Parts) → Numbered 9 10 (product d e mask x y)
+unfolding product
+of-product d e mask x y = of-result (omega arith) e mask _ (magnitude d x * magnitude d y) (16 ^ 156)
+
 numbered-mapped : {A B : Type 0} {lo hi : ℕ} (f : A → B) (r : Answer A) → Numbered lo hi r → Numbered lo hi (mapped f r)
 numbered-mapped f (gives a) given = given
 numbered-mapped f (stops n) (stopped l h) = stopped l h
 
 pub stops-numbered : StopsNumbered
-unfolding toFixed quotientWords summedWords
+unfolding toFixed quotientWords summedWords productWords
 stops-numbered = record {
   fixed = λ w. choice (ltb (fixedMagnitude (shortParts w)) (2 ^ 31 + shortParts w .sign)) given (stopped (omega arith) (omega arith));
   quotient = λ w mask a b. numbered-mapped (wordsOf w) (quotient (digitsOf w) mask (partsOf w a) (partsOf w b)) (of-quotient (digitsOf w) mask (partsOf w a) (partsOf w b));
   sum = λ s w mask a b. numbered-mapped (wordsOf w) (summed s (digitsOf w) mask (partsOf w a) (partsOf w b)) (of-summed s (digitsOf w) mask (partsOf w a) (partsOf w b));
+  product = λ v w mask a b. numbered-mapped (wordsOf w) (product (digitsOf v) (digitsOf w) mask (partsOf v a) (partsOf v b)) (of-product (digitsOf v) (digitsOf w) mask (partsOf v a) (partsOf v b));
 }

@@ -17,6 +17,7 @@ use Rattle.hexfloat.specs.Normal.{IsCharacteristic, IsFraction, IsBelowZ
 use Rattle.hexfloat.specs.Convert.{fixedMagnitude, wordMagnitude, floatParts, toFixed, toFloat}
 use Rattle.hexfloat.specs.Result.{resultOf, underflow}
 use Rattle.hexfloat.specs.Divide.{quotient, quotientWords}
+use Rattle.hexfloat.specs.Multiply.{product, productWords}
 use Rattle.hexfloat.specs.Add.{input, commonCharacteristic, aligned, IsAligned, signed, intermediateSum, sum, summed, summedWords}
 
 -- For whole numbers a and b above 0 there is one characteristic of a / b, 0 or more or below 0, and to it one fraction of d digits.
@@ -111,8 +112,9 @@ pub data Numbered {A : Type 0} (lo hi : ℕ) : Answer A → Type 0 where
   given : {a : A} → Numbered lo hi (gives a)
   stopped : {n : ℕ} → lo ≤ n → n ≤ hi → Numbered lo hi (stops n)
 
--- Arithmetic stops by 8 to 11 alone: the divides by 8, 9 and 10, sums and differences by 9 and 10, CVFX by 11.
+-- Arithmetic stops by 8 to 11 alone: the divides by 8, 9 and 10, sums, differences and products by 9 and 10, CVFX by 11.
 pub record StopsNumbered : Type 0 where
   pub fixed : (w : ℕ) → Numbered 11 11 (toFixed w)
   pub quotient : (w : Width) (mask : Bool) (a b : Words) → Numbered 8 10 (quotientWords w mask a b)
   pub sum : (s : Sense) (w : Width) (mask : Bool) (a b : Words) → Numbered 9 10 (summedWords s w mask a b)
+  pub product : (v w : Width) (mask : Bool) (a b : Words) → Numbered 9 10 (productWords v w mask a b)

@@ -13,6 +13,7 @@ use Rattle.hexfloat.specs.Add.{summedWords}
 use Rattle.hexfloat.specs.Answer.{Answer, gives, mapped}
 use Rattle.hexfloat.specs.Convert.{toFixed}
 use Rattle.hexfloat.specs.Divide.{quotientWords}
+use Rattle.hexfloat.specs.Multiply.{productWords}
 use Rattle.hexfloat.proofs.Conditions.{conditions-set}
 use Rattle.machine.specs.declared.change.Change.{Change}
 use Rattle.orders.specs.declared.order.Order.{Order}
@@ -21,7 +22,7 @@ use Rattle.machine.specs.declared.state.Registers.{Registers}
 use Rattle.machine.specs.declared.verdict.Effect.{Effect}
 use Rattle.machine.specs.Change.{registered, placed, guarded, floatChange, storageChange}
 use Rattle.machine.specs.Check.{present}
-use Rattle.machine.specs.Effect.{nextEffect, conditionAfter, fixedInto, resultInto, performed}
+use Rattle.machine.specs.Effect.{nextEffect, conditionAfter, fixedInto, resultInto, productWidth, performed}
 use Rattle.machine.specs.Jump.{jumped, countedDown}
 use Rattle.machine.specs.Operand.{floatOperand}
 use Rattle.orders.specs.Order.{storedAs, halfwords}
@@ -54,23 +55,20 @@ module _ (p : List ℕ) (n a k : ℕ) where
   fine-is h f = subst (λ (y : Effect). Fine p n y) (gives-inj h) f
 
   module _ (v : Verb) (w : Width) (o : Order) (g : Registers) (s : Sound v w o g p n a k) where
-    -- a change of float registers
-    float-fine : (b : Words) (c : ℕ) → conditionFormed c ≡ true → Fine p n (nextEffect (g .status) (floatChange w (o .r1) b) c)
+    -- a change of float registers, at the width u of what is put there
+    float-fine : (u : Width) (b : Words) (c : ℕ) → conditionFormed c ≡ true → Fine p n (nextEffect (g .status) (floatChange u (o .r1) b) c)
     unfolding registered placed guarded floatChange
-    float-fine b c h = cases w
-      where
-        cases : (u : Width) → Fine p n (nextEffect (g .status) (floatChange u (o .r1) b) c)
-        cases Width.Short = record { registers = le-leb (o .r1) 7 (s .first); there = refl; free = refl; condition = h; mask = s .mask }
-        cases Width.Long = record { registers = le-leb (o .r1) 7 (s .first); there = refl; free = refl; condition = h; mask = s .mask }
+    float-fine Width.Short b c h = record { registers = le-leb (o .r1) 7 (s .first); there = refl; free = refl; condition = h; mask = s .mask }
+    float-fine Width.Long b c h = record { registers = le-leb (o .r1) 7 (s .first); there = refl; free = refl; condition = h; mask = s .mask }
 
     -- a result of arithmetic, with the condition code that it sets or leaves
-    result-fine : (sets : Bool) (r : Answer Words) (e : Effect) → mapped (resultInto sets w (g .status) (o .r1)) r ≡ gives e → Fine p n e
-    result-fine sets r e h =
-        let q = mapped-gives (resultInto sets w (g .status) (o .r1)) r h in
-        subst (λ (y : Effect). Fine p n y) (q .2) (float-fine (q .0) _ (cases sets (q .0)))
+    result-fine : (sets : Bool) (u : Width) (r : Answer Words) (e : Effect) → mapped (resultInto sets u (g .status) (o .r1)) r ≡ gives e → Fine p n e
+    result-fine sets u r e h =
+        let q = mapped-gives (resultInto sets u (g .status) (o .r1)) r h in
+        subst (λ (y : Effect). Fine p n y) (q .2) (float-fine u (q .0) _ (cases sets (q .0)))
       where
-        cases : (t : Bool) (a : Words) → conditionFormed (conditionAfter t w a (g .status .condition)) ≡ true
-        cases true a = formed (conditions-set .operand w a)
+        cases : (t : Bool) (a : Words) → conditionFormed (conditionAfter t u a (g .status .condition)) ≡ true
+        cases true a = formed (conditions-set .operand u a)
         cases false a = s .condition
 
     -- of one register
@@ -95,14 +93,14 @@ module _ (p : List ℕ) (n a k : ℕ) where
 
   pub effect-fine : (v : Verb) (w : Width) (o : Order) (g : Registers) (b : Words) (e : Effect) → Sound v w o g p n a k → performed v w o g a b ≡ gives e → Fine p n e
   unfolding performed jumped countedDown registered placed guarded maskFits present
-  effect-fine Verb.Load w o g b e s h = fine-is h (float-fine Verb.Load w o g s b _ (formed (conditions-set .operand w b)))
-  effect-fine Verb.Complement w o g b e s h = fine-is h (float-fine Verb.Complement w o g s _ _ (formed (conditions-set .operand w _)))
+  effect-fine Verb.Load w o g b e s h = fine-is h (float-fine Verb.Load w o g s w b _ (formed (conditions-set .operand w b)))
+  effect-fine Verb.Complement w o g b e s h = fine-is h (float-fine Verb.Complement w o g s w _ _ (formed (conditions-set .operand w _)))
   effect-fine Verb.Compare w o g b e s h = fine-is h (code-fine Verb.Compare w o g s _ (formed (conditions-set .compare w (floatOperand w (g .float) (o .r1)) b)))
   effect-fine Verb.Fix w o g b e s h =
       let q = mapped-gives (fixedInto (g .status) (o .r1)) (toFixed (b .high)) h in
       subst (λ (y : Effect). Fine p n y) (q .2) (general-fine Verb.Fix w o g s _ _ (formed (conditions-set .fixed (b .high) (q .0) (q .1))))
   effect-fine Verb.Float w o g b e s h = fine-is h (one-fine Verb.Float w o g s _ _ (formed (conditions-set .float (b .high))))
-  effect-fine Verb.Divide w o g b e s h = result-fine Verb.Divide w o g s false (quotientWords w (eqb (g .status .mask) 1) (floatOperand w (g .float) (o .r1)) b) e h
+  effect-fine Verb.Divide w o g b e s h = result-fine Verb.Divide w o g s false w (quotientWords w (eqb (g .status .mask) 1) (floatOperand w (g .float) (o .r1)) b) e h
   effect-fine Verb.Store w o g b e s h = fine-is h (storage-fine Verb.Store w o g s w (floatOperand w (g .float) (o .r1)) (s .there) (s .free))
   effect-fine Verb.LoadGeneral w o g b e s h = fine-is h (general-fine Verb.LoadGeneral w o g s _ _ (formed (conditions-set .general (b .high))))
   effect-fine Verb.StoreGeneral w o g b e s h =
@@ -113,4 +111,6 @@ module _ (p : List ℕ) (n a k : ℕ) where
   effect-fine Verb.CountDown w o g b e s h =
       fine-is h (record { registers = le-leb (o .r1) 7 (s .first); there = refl; free = refl; condition = s .condition; mask = s .mask })
   effect-fine Verb.Halt w o g b e s h = never h
-  effect-fine (Verb.Sum sense) w o g b e s h = result-fine (Verb.Sum sense) w o g s true (summedWords sense w (eqb (g .status .mask) 1) (floatOperand w (g .float) (o .r1)) b) e h
+  effect-fine (Verb.Sum sense) w o g b e s h = result-fine (Verb.Sum sense) w o g s true w (summedWords sense w (eqb (g .status .mask) 1) (floatOperand w (g .float) (o .r1)) b) e h
+  effect-fine Verb.Multiply w o g b e s h =
+      result-fine Verb.Multiply w o g s false (productWidth w (o .r1)) (productWords w (productWidth w (o .r1)) (eqb (g .status .mask) 1) (floatOperand w (g .float) (o .r1)) b) e h

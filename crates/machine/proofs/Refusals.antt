@@ -19,7 +19,7 @@ use Rattle.machine.specs.declared.verdict.Effect.{Effect}
 use Rattle.machine.specs.Address.{addressOf}
 use Rattle.machine.specs.Check.{present}
 use Rattle.machine.specs.Decide.{entryStop, judged, decided}
-use Rattle.machine.specs.Effect.{fixedInto, resultInto, performed, effectOf}
+use Rattle.machine.specs.Effect.{fixedInto, resultInto, productWidth, performed, effectOf}
 use Rattle.machine.specs.Operand.{floatOperand, secondOperand}
 use Rattle.orders.specs.Order.{rowAmong, rows, operationOf, withinLimits, legalOf, spanOf, storedOf, isHalt, orderAt}
 use Rattle.machine.specs.Protect.{anyProtected}
@@ -58,6 +58,9 @@ performed-by Verb.Jump w o g a b = tt
 performed-by Verb.CountDown w o g a b = tt
 performed-by Verb.Halt w o g a b = number 12 (omega arith) (omega arith)
 performed-by (Verb.Sum sense) w o g a b = result-by 9 (omega arith) (resultInto true w (g .status) (o .r1)) (stops-numbered .sum sense w (eqb (g .status .mask) 1) (floatOperand w (g .float) (o .r1)) b)
+performed-by Verb.Multiply w o g a b =
+    result-by 9 (omega arith) (resultInto false (productWidth w (o .r1)) (g .status) (o .r1))
+    (stops-numbered .product w (productWidth w (o .r1)) (eqb (g .status .mask) 1) (floatOperand w (g .float) (o .r1)) b)
 
 judged-by : (o : Order) (g : Registers) (used : ℕ) (p m : List ℕ) (journal : ℕ) (op : Operation) → StopsBy StepNumber (judged o g used p m journal op)
 unfolding judged effectOf

@@ -30,6 +30,7 @@ maskFits Verb.Jump r = true
 maskFits Verb.CountDown r = true
 maskFits Verb.Halt r = true
 maskFits (Verb.Sum s) r = true
+maskFits Verb.Multiply r = true
 
 -- no register above 7; what is stored is a part of S, which has at most four halfwords; a mask is 0 or 1
 unfoldable fitting : Operation → Bool

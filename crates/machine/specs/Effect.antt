@@ -1,6 +1,6 @@
 -- What each order does (document 01, 'Orders', and the sections of document 001 that it names): one case a verb, over the width of its operands.
 -- Words are read from registers and storage before anything is written; the arithmetic is hexfloat's.
-use Prim.Native.Nat.{ℕ, _+_, _<_, _≤_}
+use Prim.Native.Nat.{ℕ, _+_, _%_, _<_, _≤_}
 use mathlib.Core.Path.{_≡_}
 use mathlib.Core.List.{List}
 use mathlib.Core.Bool.{Bool, true, false, cond}
@@ -15,6 +15,7 @@ use Rattle.hexfloat.specs.Condition.{operandCondition, generalCondition, comple
 use Rattle.hexfloat.specs.Compare.{comparedWords}
 use Rattle.hexfloat.specs.Convert.{toFixed, toFloat}
 use Rattle.hexfloat.specs.Divide.{quotientWords}
+use Rattle.hexfloat.specs.Multiply.{productWords}
 use Rattle.machine.specs.declared.change.Change.{Change}
 use Rattle.orders.specs.declared.order.Operation.{Operation}
 use Rattle.orders.specs.declared.order.Order.{Order}
@@ -74,6 +75,15 @@ divided w s r a b = mapped (resultInto false w s r) (quotientWords w (eqb (s .ma
 abbrev pub summedInto : Sense → Width → Status → ℕ → Words → Words → Answer Effect
 summedInto sense w s r a b = mapped (resultInto true w s r) (summedWords sense w (eqb (s .mask) 1) a b)
 
+-- 8.25: a short product fills R r and R r + 1 if r is even, and R r alone if it is odd; 8.24: a long one fills pair r
+abbrev pub productWidth : Width → ℕ → Width
+productWidth Width.Short r = cond (eqb (r % 2) 0) Width.Long Width.Short
+productWidth Width.Long r = Width.Long
+
+-- products: the condition code stays
+abbrev pub multiplied : Width → Status → ℕ → Words → Words → Answer Effect
+multiplied w s r a b = mapped (resultInto false (productWidth w r) s r) (productWords w (productWidth w r) (eqb (s .mask) 1) a b)
+
 -- L
 abbrev pub loadedGeneral : Status → ℕ → ℕ → Effect
 loadedGeneral s r w = nextEffect s (Change.General r w) (generalCondition w)
@@ -98,6 +108,7 @@ performed Verb.Jump w o g a b = gives (jumped (g .status) (o .r1) (o .at))
 performed Verb.CountDown w o g a b = gives (countedDown (g .status) (o .r1) (generalAt (g .general) (o .r1)) (o .at))
 performed Verb.Halt w o g a b = stops 12
 performed (Verb.Sum sense) w o g a b = summedInto sense w (g .status) (o .r1) (floatOperand w (g .float) (o .r1)) b
+performed Verb.Multiply w o g a b = multiplied w (g .status) (o .r1) (floatOperand w (g .float) (o .r1)) b
 
 unfoldable pub effectOf : Operation → Order → Registers → List ℕ → Answer Effect
 effectOf op o g m = performed (op .verb) (op .width) o g (addressOf o (g .general)) (secondOperand (op .place) (op .width) o (g .float) (g .general) m)

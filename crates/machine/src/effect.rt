@@ -37,6 +37,8 @@ ghost use Rattle.machine.specs.Effect.{
   resultInto,
   divided,
   summedInto,
+  productWidth,
+  multiplied,
   loadedGeneral,
   masked,
   performed,
@@ -108,6 +110,30 @@ fn sum(sense: Sense, width: Width, s: Status, r: u32, a: Words, b: Words) -> Ver
 {
     let q = hexfloat::sum(sense, width, s.mask == 1, a, b);
     place_result(true, width, s, r, q)
+}
+
+fn multiply(width: Width, s: Status, r: u32, a: Words, b: Words) -> Verdict
+    requires { ⌜ s .pointer + 1 < 65536 ⌝ }
+    ensures { λ v. ⌜ says v ≡ multiplied width s r a b ⌝ }
+{
+    let filled = product_width(width, r);
+    let p = hexfloat::multiply(width, filled, s.mask == 1, a, b);
+    place_result(false, filled, s, r, p)
+}
+
+// How wide a product is that goes to r: a short one fills a pair from an even register on.
+fn product_width(width: Width, r: u32) -> Width
+    ensures { λ w. ⌜ w ≡ productWidth width r ⌝ }
+{
+    match width {
+        Width::Short => {
+            if r % 2 == 0 {
+                return Width::Long;
+            }
+            Width::Short
+        }
+        Width::Long => Width::Long,
+    }
 }
 
 // A result of arithmetic, which sets the condition code or leaves it.
@@ -200,6 +226,7 @@ fn perform(
             let a = float_operand(width, float, r);
             sum(sense, width, status, r, a, b)
         }
+        Verb::Multiply => multiply(width, status, r, float_operand(width, float, r), b),
     }
 }
 

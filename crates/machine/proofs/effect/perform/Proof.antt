@@ -116,6 +116,15 @@ float-operand-requires-4 c κs = search needs
 sum-requires : tie.Need-sum-requires
 sum-requires c κs = search needs
 
+enum-told-14 : tie.Need-enum-told-14
+enum-told-14 c = search needs
+
+float-operand-requires-5 : tie.Need-float-operand-requires-5
+float-operand-requires-5 c κs = search needs
+
+multiply-requires : tie.Need-multiply-requires
+multiply-requires c κs = search needs
+
 returns : tie.Need-returns
 unfolding performed
 returns c = rw (c .before .enum-told .given .1, c .load .ensures)
@@ -178,6 +187,10 @@ returns-14 : tie.Need-returns-14
 unfolding performed
 returns-14 c = rw (c .before .before .before .verb .given .1, c .sum .ensures, c .before .float-operand4 .ensures)
 
+returns-15 : tie.Need-returns-15
+unfolding performed
+returns-15 c = rw (c .before .before .enum-told14 .given .1, c .multiply .ensures, c .before .float-operand5 .ensures)
+
 pub perform-spec : {M : Type 1} → statement M
 perform-spec =
     tie.close
@@ -219,6 +232,9 @@ perform-spec =
     enum-known-verb
     float-operand-requires-4
     sum-requires
+    enum-told-14
+    float-operand-requires-5
+    multiply-requires
     returns
     returns-2
     returns-3
@@ -232,4 +248,5 @@ perform-spec =
     returns-11
     returns-12
     returns-13
-    returns-14)
+    returns-14
+    returns-15)
