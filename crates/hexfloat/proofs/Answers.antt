@@ -14,6 +14,9 @@ gives-inj h = cc
 pub never : {A : Type 0} {n : ℕ} {x : A} {C : Type 0} → stops n ≡ gives x → C
 never h = let z : _≡_ {A = ℕ} 0 1 = cc in absurd (omega arith)
 
+pub stops-inj : {A : Type 0} {n m : ℕ} → _≡_ {A = Answer A} (stops n) (stops m) → n ≡ m
+stops-inj h = cc
+
 pub provided-gives : {A : Type 0} {x : A} (ok : Bool) (n : ℕ) (rest : Answer A) → provided ok n rest ≡ gives x → (ok ≡ true) × (rest ≡ gives x)
 provided-gives true n rest h = (refl, h)
 provided-gives false n rest h = never h

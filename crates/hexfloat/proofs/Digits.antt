@@ -14,6 +14,10 @@ pos k = one-le-pow k 16 (zero-lt-suc 15)
 pub mono : {i j : ℕ} → i ≤ j → 16 ^ i ≤ 16 ^ j
 mono h = pow-le-pow-right (zero-lt-suc 15) h
 
+-- powers in order have exponents in order
+pub power-lt : {i j : ℕ} → 16 ^ i < 16 ^ j → i < j
+power-lt h = lt-of-not-le (λ (g : _ ≤ _). not-le-of-lt h (mono g))
+
 -- a hexadecimal digit is four bits
 pub four-bits : (k : ℕ) → 2 ^ (4 * k) ≡ 16 ^ k
 four-bits zero = refl

@@ -8,7 +8,9 @@ use Rattle.hexfloat.specs.Divide.{quotientWords, quotient}
 use Rattle.hexfloat.specs.Result.{resultOf}
 use Rattle.hexfloat.specs.Word.{magnitude}
 use Rattle.hexfloat.specs.Add.{addendOf, input, commonCharacteristic, aligned, signed, intermediateSum, resultOfSum, sum, summed, summedWords}
-use Rattle.hexfloat.specs.Edges.{StarredEdges, SumEdges}
+use Rattle.hexfloat.specs.Multiply.{product, productWords}
+use Rattle.hexfloat.specs.Theorems.{withoutLowByLow, shortenedProduct}
+use Rattle.hexfloat.specs.Edges.{StarredEdges, SumEdges, ProductEdges}
 
 pub starred-edges : StarredEdges
 unfolding toFloat floatParts conditionBy toFixed fixedMagnitude quotientWords quotient resultOf comparedWords compared positive negative magnitude characteristicOf fractionOf digits digitsIn
@@ -38,6 +40,21 @@ sum-edges = record {
   unnormalised = refl;
   zero-fraction = refl;
   normalised = refl;
+  underflow = refl;
+  underflow-masked = refl;
+}
+
+pub product-edges : ProductEdges
+unfolding productWords product shortenedProduct withoutLowByLow resultOf magnitude characteristicOf fractionOf digits digitsIn
+product-edges = record {
+  in-a-pair = refl;
+  in-one-register = refl;
+  largest-square = refl;
+  shortened-square = refl;
+  within-range = refl;
+  overflow = refl;
+  unnormalised = refl;
+  zero-fraction = refl;
   underflow = refl;
   underflow-masked = refl;
 }

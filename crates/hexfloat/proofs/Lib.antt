@@ -13,9 +13,11 @@ pub mod Keys
 pub mod Multiplied
 pub mod Normalised
 pub mod Placed
+pub mod Products
 pub mod Ratio
 pub mod Results
 pub mod Scaled
+pub mod Shortened
 pub mod Signs
 pub mod Sums
 pub mod Theorems

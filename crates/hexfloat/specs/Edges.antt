@@ -1,14 +1,16 @@
--- Edges as statements about the definitions that the contracts cite: the starred ones of document 01, 'Edges', and those of sums.
+-- Edges as statements about the definitions that the contracts cite: the starred ones of document 01, 'Edges', and those of sums and products.
 use mathlib.Core.Path.{_≡_}
 use mathlib.Core.Bool.{true, false}
 use Rattle.hexfloat.specs.declared.addition.Sense.the-variants.{Plus, Minus}
 use Rattle.hexfloat.specs.declared.word.Width.the-variants.{Short, Long}
 use Rattle.hexfloat.specs.Answer.{gives, stops}
-use Rattle.hexfloat.specs.Word.{shortWords}
+use Rattle.hexfloat.specs.Word.{shortWords, longParts}
 use Rattle.hexfloat.specs.Compare.{comparedWords}
 use Rattle.hexfloat.specs.Convert.{toFixed, toFloat}
 use Rattle.hexfloat.specs.Divide.{quotientWords}
 use Rattle.hexfloat.specs.Add.{summedWords}
+use Rattle.hexfloat.specs.Multiply.{productWords}
+use Rattle.hexfloat.specs.Theorems.{shortenedProduct}
 
 pub record StarredEdges : Type 0 where
   pub cvfl-one : toFloat 0x00010000 ≡ record { word = 0x41100000; condition = 1 }
@@ -36,3 +38,18 @@ pub record SumEdges : Type 0 where
   pub normalised : summedWords Plus Short true (shortWords 0x41012345) (shortWords 0) ≡ gives (shortWords 0x40123450)
   pub underflow : summedWords Plus Short true (shortWords 0x00000001) (shortWords 0) ≡ stops 10
   pub underflow-masked : summedWords Plus Short false (shortWords 0x80000001) (shortWords 0) ≡ gives (shortWords 0)
+
+-- Products in a pair and in one register, at the limits, of zero and unnormalised operands, and what a product without its low by low part would be
+-- (8.24, 8.25).
+pub record ProductEdges : Type 0 where
+  pub in-a-pair : productWords Short Long true (shortWords 0x41123456) (shortWords 0x41654321) ≡ gives (record { high = 0x417336BF; low = 0x94116000 })
+  pub in-one-register : productWords Short Short true (shortWords 0x41123456) (shortWords 0x41654321) ≡ gives (shortWords 0x417336BF)
+  pub largest-square : productWords Long Long true (record { high = 0x41FFFFFF; low = 0xFFFFFFFF }) (record { high = 0x41FFFFFF; low = 0xFFFFFFFF }) ≡ gives (record { high = 0x42FFFFFF; low = 0xFFFFFFFE })
+  pub shortened-square : shortenedProduct 14 6 true (longParts (record { high = 0x41FFFFFF; low = 0xFFFFFFFF })) (longParts (record { high = 0x41FFFFFF; low = 0xFFFFFFFF }))
+      ≡ gives (longParts (record { high = 0x42FFFFFF; low = 0xFFFFFFFD }))
+  pub within-range : productWords Short Short true (shortWords 0x60100000) (shortWords 0x60100000) ≡ gives (shortWords 0x7F100000)
+  pub overflow : productWords Short Short true (shortWords 0x60100000) (shortWords 0x61100000) ≡ stops 9
+  pub unnormalised : productWords Short Short true (shortWords 0x7F000001) (shortWords 0x46100000) ≡ gives (shortWords 0x7F100000)
+  pub zero-fraction : productWords Short Long true (shortWords 0xFF000000) (shortWords 0x7FFFFFFF) ≡ gives (shortWords 0)
+  pub underflow : productWords Short Short true (shortWords 0x00100000) (shortWords 0x40800000) ≡ stops 10
+  pub underflow-masked : productWords Short Long false (shortWords 0x80100000) (shortWords 0x40800000) ≡ gives (shortWords 0)

@@ -15,7 +15,7 @@ use Rattle.hexfloat.specs.Condition.{IsCondition, operandCondition, gene
 use Rattle.hexfloat.specs.Compare.{positive, negative, comparedWords}
 use Rattle.hexfloat.specs.Normal.{IsCharacteristic, IsFraction, IsBelowZero}
 use Rattle.hexfloat.specs.Convert.{fixedMagnitude, wordMagnitude, floatParts, toFixed, toFloat}
-use Rattle.hexfloat.specs.Result.{resultOf, underflow}
+use Rattle.hexfloat.specs.Result.{signByAlgebra, resultOf, underflow}
 use Rattle.hexfloat.specs.Divide.{quotient, quotientWords}
 use Rattle.hexfloat.specs.Multiply.{product, productWords}
 use Rattle.hexfloat.specs.Add.{input, commonCharacteristic, aligned, IsAligned, signed, intermediateSum, sum, summed, summedWords}
@@ -28,19 +28,22 @@ pub record OneNumber (d a b : ℕ) : Type 0 where
   pub some-fraction : (c : ℕ) → (f : ℕ) × IsFraction d a b c f
   pub one-fraction : (c f f′ : ℕ) → IsFraction d a b c f → IsFraction d a b c f′ → f ≡ f′
 
--- The result of the ratio a / b, b above 0: true zero, or what the exact ratio says. A ratio that has a characteristic, 0 or more or below 0, is not
--- zero.
+-- The result of the ratio a / b, b above 0: true zero, or what the exact ratio says, and each of the answers only where it says so. A ratio that has a
+-- characteristic, 0 or more or below 0, is not zero.
 pub record ExactResult (d : ℕ) (mask : Bool) (sign a b : ℕ) : Type 0 where
   pub zero : a ≡ 0 → resultOf d mask sign a b ≡ gives trueZero
   pub overflows : (c : ℕ) → IsCharacteristic a b c → 127 < c → resultOf d mask sign a b ≡ stops 9
   pub underflows : (k : ℕ) → 0 < k → IsBelowZero a b k → resultOf d mask sign a b ≡ underflow mask
   pub cut : (c f : ℕ) → IsCharacteristic a b c → c ≤ 127 → IsFraction d a b c f
       → resultOf d mask sign a b ≡ gives (record { sign = sign; characteristic = c; fraction = f })
+  pub overflows-only : resultOf d mask sign a b ≡ stops 9 → (c : ℕ) × IsCharacteristic a b c × (127 < c)
+  pub underflows-only : resultOf d mask sign a b ≡ stops 10 → (k : ℕ) × (0 < k) × IsBelowZero a b k
+  pub zero-only : 0 < d → resultOf d mask sign a b ≡ gives trueZero → (a ≡ 0) ⊎ ((k : ℕ) × (0 < k) × IsBelowZero a b k)
 
 -- The quotient of two numbers of d digits is the result of the ratio of their magnitudes.
 pub record ExactQuotient (d : ℕ) (mask : Bool) (x y : Parts) : Type 0 where
   pub zero-divisor : magnitude d y ≡ 0 → quotient d mask x y ≡ stops 8
-  pub ratio : 0 < magnitude d y → quotient d mask x y ≡ resultOf d mask ((x .sign + y .sign) % 2) (magnitude d x) (magnitude d y)
+  pub ratio : 0 < magnitude d y → quotient d mask x y ≡ resultOf d mask (signByAlgebra x y) (magnitude d x) (magnitude d y)
 
 -- An aligned fraction is the exact magnitude cut toward zero to d + g digits at the characteristic c, and no other number is.
 pub record ExactAlignment (d g c : ℕ) (p : Parts) : Type 0 where
@@ -84,6 +87,49 @@ pub record SumLaws (d : ℕ) (mask : Bool) (x y : Parts) : Type 0 where
 pub record WordLaws (w : Width) (mask : Bool) (a b : Words) : Type 0 where
   pub interchanged : summedWords Sense.Plus w mask a b ≡ summedWords Sense.Plus w mask b a
   pub less-itself : summedWords Sense.Minus w mask a a ≡ gives (shortWords 0)
+
+-- The product of two numbers of d digits as a result of e: that of the exact product, which is the ratio of the magnitudes' product and 16^156. It is
+-- normalised and cut, overflows and underflows as any result does, and has one characteristic and one fraction.
+pub record ExactProduct (d e : ℕ) (mask : Bool) (x y : Parts) : Type 0 where
+  pub ratio : product d e mask x y ≡ resultOf e mask (signByAlgebra x y) (magnitude d x * magnitude d y) (16 ^ 156)
+  pub result : ExactResult e mask (signByAlgebra x y) (magnitude d x * magnitude d y) (16 ^ 156)
+  pub number : 0 < magnitude d x * magnitude d y → OneNumber e (magnitude d x * magnitude d y) (16 ^ 156)
+
+-- 8.24, 8.25: the operands may be interchanged; a zero fraction of either gives true zero, and no stop.
+pub record ProductLaws (d e : ℕ) (mask : Bool) (x y : Parts) : Type 0 where
+  pub interchanged : product d e mask x y ≡ product d e mask y x
+  pub zero-first : x .fraction ≡ 0 → product d e mask x y ≡ gives trueZero
+  pub zero-second : y .fraction ≡ 0 → product d e mask x y ≡ gives trueZero
+
+-- 8.25: a product p of e digits, twice the operands' d or more, loses nothing. It is the exact product, with zeros for the digits that it has more;
+-- or the exact product has a characteristic below 0, and it underflows.
+pub record LosesNothing (d e : ℕ) (x y p : Parts) : Type 0 where
+  pub exact : magnitude e p * 16 ^ 78 ≡ magnitude d x * magnitude d y
+  pub zeros : p .fraction % 16 ^ (e - 2 * d) ≡ 0
+
+abbrev pub ExactOrUnderflow : ℕ → ℕ → Parts → Parts → Parts → Type 0
+ExactOrUnderflow d e x y p = LosesNothing d e x y p ⊎ ((k : ℕ) × (0 < k) × IsBelowZero (magnitude d x * magnitude d y) (16 ^ 156) k)
+
+-- What leaving the low by low part out would do: 8.24 names 'the three most significant' partial sums, and leaves open where a fraction is split. Here
+-- the low part of a number has the last l digits of its fraction.
+abbrev pub lowPart : ℕ → Parts → Parts
+lowPart l p = record { sign = p .sign; characteristic = p .characteristic; fraction = p .fraction % 16 ^ l }
+
+unfoldable pub withoutLowByLow : ℕ → ℕ → Parts → Parts → ℕ
+withoutLowByLow d l x y = magnitude d x * magnitude d y - magnitude d (lowPart l x) * magnitude d (lowPart l y)
+
+unfoldable pub shortenedProduct : ℕ → ℕ → Bool → Parts → Parts → Answer Parts
+shortenedProduct d l mask x y = resultOf d mask (signByAlgebra x y) (withoutLowByLow d l x y) (16 ^ 156)
+
+-- d digits, the first of them not zero
+pub record IsNormalised (d : ℕ) (p : Parts) : Type 0 where
+  pub least : 16 ^ d ≤ p .fraction * 16
+  pub most : p .fraction < 16 ^ d
+
+-- q is p or lower, and by no more than one unit of the last digit of p
+pub record AtMostOneUnitLower (d : ℕ) (p q : Parts) : Type 0 where
+  pub never-higher : magnitude d q ≤ magnitude d p
+  pub one-unit : magnitude d p ≤ magnitude d q + 16 ^ (p .characteristic + (14 - d))
 
 -- CVFX: the magnitude is the exact value times 65,536 cut toward zero, and no other number is.
 pub record ExactFixed (p : Parts) : Type 0 where

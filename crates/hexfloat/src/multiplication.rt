@@ -67,8 +67,7 @@ fn multiply_long(a: u64, b: u64) -> Product
     let bl = b % 0x100_0000;
     let low = al * bl;
     let middle = ah * bl + al * bh + low / 0x100_0000;
-    Product {
-        high: ah * bh + middle / 0x100_0000,
-        low: middle % 0x100_0000 * 0x100_0000 + low % 0x100_0000,
-    }
+    let high = ah * bh + middle / 0x100_0000;
+    let rest = middle % 0x100_0000 * 0x100_0000 + low % 0x100_0000;
+    Product { high, low: rest }
 }

@@ -28,17 +28,17 @@ add-middle-2 c =
       );
     }
 
-mul-t9 : tie.Need-mul-t9
-mul-t9 c = record { fits = omega (arith, first-part-most (c .args .a) (c .args .b) (c .pre .0) (c .pre .1)) }
+mul-high : tie.Need-mul-high
+mul-high c = record { fits = omega (arith, first-part-most (c .args .a) (c .args .b) (c .pre .0) (c .pre .1)) }
 
-add-t11 : tie.Need-add-t11
-add-t11 c = record { fits = first-part-most (c .args .a) (c .args .b) (c .pre .0) (c .pre .1) }
+add-high : tie.Need-add-high
+add-high c = record { fits = omega (arith, first-part-most (c .args .a) (c .args .b) (c .pre .0) (c .pre .1)) }
 
-mul-t13 : tie.Need-mul-t13
-mul-t13 c = search needs
+mul-rest : tie.Need-mul-rest
+mul-rest c = search needs
 
-add-t15 : tie.Need-add-t15
-add-t15 c = search needs
+add-rest : tie.Need-add-rest
+add-rest c = search needs
 
 returns : tie.Need-returns
 returns c = (parts-whole (c .args .a) (c .args .b), omega arith)
@@ -52,8 +52,8 @@ multiply-long-spec =
     mul-middle-2
     add-middle
     add-middle-2
-    mul-t9
-    add-t11
-    mul-t13
-    add-t15
+    mul-high
+    add-high
+    mul-rest
+    add-rest
     returns)

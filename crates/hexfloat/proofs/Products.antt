@@ -1,0 +1,117 @@
+-- The theorems on products of specs/Theorems.antt, over the digits d of the operands and e of the result.
+use mathlib.Core.Path.{_≡_, refl, sym, ap, ap₂, _∙_, subst}
+use mathlib.Core.Bool.{Bool}
+use mathlib.Core.Logic.{_⊎_, inl, inr}
+use Prim.Native.Nat.{ℕ, _+_, _-_, _*_, _/_, _%_, _^_, _≤_, _<_}
+use native.Mathlib.Nat.{le-trans, le-of-eq, le-of-lt, lt-of-lt-of-le, lt-of-le-of-lt, mul-le-mul-right, mul-lt-mul-of-pos-left, mul-lt-mul-of-pos-right, mul-assoc, mul-comm, mul-mul-mul-comm, mul-div-cancel, mul-mod-left, mod-eq-of-lt, add-comm, zero-mul}
+use native.Mathlib.Omega.{arith}
+use lib.Pow.{pow-add}
+use Rattle.hexfloat.specs.declared.word.Parts.{Parts}
+use Rattle.hexfloat.specs.Answer.{Answer, gives}
+use Rattle.hexfloat.specs.Multiply.{product}
+use Rattle.hexfloat.specs.Normal.{IsCharacteristic, IsBelowZero, IsFraction}
+use Rattle.hexfloat.specs.Result.{signByAlgebra, resultOf, underflow}
+use Rattle.hexfloat.specs.Theorems.{ExactProduct, ProductLaws, LosesNothing, ExactOrUnderflow}
+use Rattle.hexfloat.specs.Word.{magnitude, trueZero}
+use Rattle.hexfloat.proofs.Answers.{gives-inj, never}
+use Rattle.hexfloat.proofs.Digits.{pos, power-lt}
+use Rattle.hexfloat.proofs.Multiplied.{zero-first, zero-second}
+use Rattle.hexfloat.proofs.Normalised.{magnitude-zero}
+use Rattle.hexfloat.proofs.Placed.{parted}
+use Rattle.hexfloat.proofs.Ratio.{cut-unique}
+use Rattle.hexfloat.proofs.Theorems.{one-number, exact-result, result-cases}
+
+pub exact-product : (d e : ℕ) (mask : Bool) (x y : Parts) → ExactProduct d e mask x y
+unfolding product
+exact-product d e mask x y = record {
+  ratio = refl;
+  result = exact-result e mask (signByAlgebra x y) (magnitude d x * magnitude d y) (16 ^ 156) (pos 156);
+  number = λ h. one-number e (magnitude d x * magnitude d y) (16 ^ 156) h (pos 156);
+}
+
+-- the operands interchanged
+sign-swapped : (x y : Parts) → signByAlgebra x y ≡ signByAlgebra y x
+sign-swapped x y = ap (λ (s : ℕ). s % 2) (add-comm (x .sign) (y .sign))
+
+swapped : (d e : ℕ) (mask : Bool) (x y : Parts) → product d e mask x y ≡ product d e mask y x
+unfolding product
+swapped d e mask x y = ap₂ (λ (s a : ℕ). resultOf e mask s a (16 ^ 156)) (sign-swapped x y) (mul-comm (magnitude d x) (magnitude d y))
+
+pub product-laws : (d e : ℕ) (mask : Bool) (x y : Parts) → ProductLaws d e mask x y
+product-laws d e mask x y = record {
+  interchanged = swapped d e mask x y;
+  zero-first = zero-first d e mask x y;
+  zero-second = zero-second d e mask x y;
+}
+
+-- a product of numbers below others
+pub product-below : {a b m n : ℕ} → a < m → b < n → a * b < m * n
+product-below {a} {b} {m} {n} h l = lt-of-le-of-lt (mul-le-mul-right b (le-of-lt h)) (mul-lt-mul-of-pos-left l (omega arith))
+
+-- The product of the magnitudes is that of the fractions, moved left by the places of both.
+module _ (d : ℕ) (x y : Parts) where
+  abbrev pub places : ℕ
+  places = x .characteristic + (14 - d) + (y .characteristic + (14 - d))
+
+  pub product-moved : magnitude d x * magnitude d y ≡ x .fraction * y .fraction * 16 ^ places
+  unfolding magnitude
+  product-moved =
+      mul-mul-mul-comm (x .fraction) (16 ^ (x .characteristic + (14 - d))) (y .fraction) (16 ^ (y .characteristic + (14 - d)))
+      ∙ ap (λ (z : ℕ). x .fraction * y .fraction * z) (sym (pow-add 16 (x .characteristic + (14 - d)) (y .characteristic + (14 - d))))
+
+-- A fraction of e digits has room for all digits of a product of two fractions of d.
+module _ (d e : ℕ) (x y : Parts) (twice : 2 * d ≤ e) (fits : e ≤ 14) (hx : x .fraction < 16 ^ d) (hy : y .fraction < 16 ^ d) where
+  abbrev fractions : ℕ
+  fractions = x .fraction * y .fraction
+
+  abbrev p : ℕ
+  p = places d x y
+
+  module _ (c f : ℕ) (r : IsCharacteristic (magnitude d x * magnitude d y) (16 ^ 156) c) (s : IsFraction e (magnitude d x * magnitude d y) (16 ^ 156) c f) where
+    -- the product's first digit is not above the first of its 2 d digits
+    reach : c + 156 < d + d + (p + 65)
+    reach =
+        power-lt
+        (lt-of-le-of-lt (le-trans (le-of-eq (pow-add 16 c 156)) (le-trans (r .least) (le-of-eq (ap (λ (z : ℕ). z * 16 ^ 65) (product-moved d x y) ∙ sym (parted fractions p 65 (p + 65) refl)))))
+        (lt-of-lt-of-le (mul-lt-mul-of-pos-right (product-below hx hy) (pos (p + 65))) (le-of-eq (ap (λ (z : ℕ). z * 16 ^ (p + 65)) (sym (pow-add 16 d d)) ∙ sym (pow-add 16 (d + d) (p + 65))))))
+
+    abbrev left : ℕ
+    left = p + (64 + e) - (c + 156)
+
+    -- so its last digit is not below the last of e
+    whole : magnitude d x * magnitude d y * 16 ^ (64 + e) ≡ fractions * 16 ^ left * (16 ^ c * 16 ^ 156)
+    whole =
+        ap (λ (z : ℕ). z * 16 ^ (64 + e)) (product-moved d x y)
+        ∙ sym (parted fractions p (64 + e) (p + (64 + e)) refl)
+        ∙ parted fractions left (c + 156) (p + (64 + e)) (omega (arith, reach))
+        ∙ ap (λ (z : ℕ). fractions * 16 ^ left * z) (pow-add 16 c 156)
+
+    fraction-is : f ≡ fractions * 16 ^ left
+    fraction-is =
+        sym (cut-unique (magnitude d x * magnitude d y * 16 ^ (64 + e)) (16 ^ c * 16 ^ 156) f (s .least) (s .most))
+        ∙ ap (λ (z : ℕ). z / (16 ^ c * 16 ^ 156)) whole
+        ∙ mul-div-cancel (fractions * 16 ^ left) (lt-of-lt-of-le (pos (c + 156)) (le-of-eq (pow-add 16 c 156)))
+
+    zeros : f % 16 ^ (e - 2 * d) ≡ 0
+    zeros =
+        ap (λ (z : ℕ). z % 16 ^ (e - 2 * d)) (fraction-is ∙ parted fractions (left - (e - 2 * d)) (e - 2 * d) left (omega (arith, reach)))
+        ∙ mul-mod-left (fractions * 16 ^ (left - (e - 2 * d))) (16 ^ (e - 2 * d))
+
+    exact : f * 16 ^ (c + (14 - e)) * 16 ^ 78 ≡ magnitude d x * magnitude d y
+    exact =
+        sym (parted f (c + (14 - e)) 78 (c + (14 - e) + 78) refl)
+        ∙ ap (λ (z : ℕ). z * 16 ^ (c + (14 - e) + 78)) fraction-is
+        ∙ sym (parted fractions left (c + (14 - e) + 78) p (omega (arith, reach)))
+        ∙ sym (product-moved d x y)
+
+  pub loses-nothing : (mask : Bool) (q : Parts) → product d e mask x y ≡ gives q → ExactOrUnderflow d e x y q
+  unfolding product magnitude
+  loses-nothing mask q =
+      result-cases e mask (signByAlgebra x y) (magnitude d x * magnitude d y) (16 ^ 156) (pos 156) (λ r. r ≡ gives q → ExactOrUnderflow d e x y q)
+      (λ z g. inl (given g (record { exact = ap (λ (v : ℕ). v * 16 ^ 78) (magnitude-zero e trueZero refl) ∙ zero-mul (16 ^ 78) ∙ sym z; zeros = mod-eq-of-lt (pos (e - 2 * d)) })))
+      (λ c r h g. never g)
+      (λ k hk r g. inr (k, hk, r))
+      (λ c f r h s g. inl (given g (record { exact = exact c f r s; zeros = zeros c f r s })))
+    where
+      given : {u : Parts} → gives u ≡ gives q → LosesNothing d e x y u → LosesNothing d e x y q
+      given g l = subst (λ (v : Parts). LosesNothing d e x y v) (gives-inj g) l
