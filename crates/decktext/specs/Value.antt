@@ -90,6 +90,10 @@ mnemonics =
     ∷ (65 ∷ 69 ∷ 68 ∷ [])  -- AED
     ∷ (83 ∷ 69 ∷ 68 ∷ 82 ∷ [])  -- SEDR
     ∷ (83 ∷ 69 ∷ 68 ∷ [])  -- SED
+    ∷ (77 ∷ 69 ∷ 82 ∷ [])  -- MER
+    ∷ (77 ∷ 69 ∷ [])  -- ME
+    ∷ (77 ∷ 69 ∷ 68 ∷ 82 ∷ [])  -- MEDR
+    ∷ (77 ∷ 69 ∷ 68 ∷ [])  -- MED
     ∷ []
 
 -- the code of a name among some mnemonics, the first of which has the code n

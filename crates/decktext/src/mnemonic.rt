@@ -85,10 +85,10 @@ const SLOTS: [u64; 64] = [
     0,
     0,
     0,
-    0,
+    0x9a8a88e2, // MED
     0xa6a88a8910, // STED
     0,
-    0,
+    0x9a8aa4df, // MER
     0,
     // slots from 32 on
     0,
@@ -96,7 +96,7 @@ const SLOTS: [u64; 64] = [
     0x868a88a507, // CEDR
     0,
     0xa6a892, // ST
-    0,
+    0x9a8aa0, // ME
     0,
     0xa6a88acf, // STE
     // slots from 40 on
@@ -124,6 +124,6 @@ const SLOTS: [u64; 64] = [
     0,
     0,
     0,
-    0,
+    0x9a8a88a521, // MEDR
     0,
 ];
