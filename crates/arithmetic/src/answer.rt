@@ -27,6 +27,9 @@ pub fn run(c: Case) -> Answer {
         b'A' => sum(Sense::Plus, Width::Long, c),
         b's' => sum(Sense::Minus, Width::Short, c),
         b'S' => sum(Sense::Minus, Width::Long, c),
+        b'm' => product(Width::Short, Width::Long, c),
+        b'n' => product(Width::Short, Width::Short, c),
+        b'M' => product(Width::Long, Width::Long, c),
         b'x' => fixed(hexfloat::to_fixed(c.a.high)),
         // `f`, the last of the ops that a case has
         _ => coded(hexfloat::to_float(c.a.high)),
@@ -54,6 +57,10 @@ fn sum(sense: Sense, width: Width, c: Case) -> Answer {
         stop: 0,
         condition: hexfloat::condition(width, words),
     }
+}
+
+fn product(operands: Width, width: Width, c: Case) -> Answer {
+    result(hexfloat::multiply(operands, width, c.mask, c.a, c.b))
 }
 
 fn compared(condition: u8) -> Answer {

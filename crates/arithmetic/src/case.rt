@@ -78,6 +78,7 @@ fn is_op(b: u8) -> bool {
     match b {
         b'd' | b'D' | b'c' | b'C' | b'x' | b'f' => true,
         b'a' | b'A' | b's' | b'S' => true,
+        b'm' | b'n' | b'M' => true,
         _ => false,
     }
 }
