@@ -49,4 +49,12 @@ impl Random {
             _ => higher | fraction >> (4 * digits).min(63),
         }
     }
+
+    /// A long number whose product with another stands at a limit of the characteristic, or near one.
+    pub fn at_limit(&mut self, w: u64) -> u64 {
+        let sum = [62, 188][self.below(2) as usize] + self.below(7);
+        let characteristic = sum.wrapping_sub(w >> 56 & 0x7f) & 0x7f;
+        let fraction = self.next() >> 8 >> (4 * (self.below(17) >> self.below(3)).min(13));
+        self.below(2) << 63 | characteristic << 56 | fraction
+    }
 }

@@ -157,6 +157,20 @@ fn add(a: Number, b: Number, d: u32, mask: bool) -> Result<Number, u8> {
     ranged(Number { fraction: n.fraction >> 8, ..n }, mask)
 }
 
+/// The product of two numbers of d digits as one of e: sign, characteristic and fraction, or a stop. 128 bits hold it whole.
+#[inline]
+fn multiply(a: Number, b: Number, d: u32, e: u32, mask: bool) -> Result<Number, u8> {
+    if a.fraction == 0 || b.fraction == 0 {
+        return Ok(TRUE_ZERO);
+    }
+    let product = a.fraction as u128 * b.fraction as u128;
+    // as a fraction of 32 digits it has 32 - 2 d zeros before its own
+    let zeros = product.leading_zeros() / 4;
+    let characteristic = a.characteristic + b.characteristic - 64 + (32 - 2 * d) as i32 - zeros as i32;
+    let fraction = ((product << (4 * zeros)) >> (128 - 4 * e)) as u64;
+    ranged(Number { negative: a.negative != b.negative, characteristic, fraction }, mask)
+}
+
 fn pack_short(n: Number) -> u32 {
     (n.negative as u32) << 31 | (n.characteristic as u32) << 24 | n.fraction as u32
 }
@@ -214,9 +228,9 @@ fn to_float(w: u32) -> (u32, u8) {
 /// Largest r1 and r2, whether `at` is in use, and the halfwords of the storage operand.
 fn form(code: u16) -> Option<(u16, u16, bool, usize)> {
     Some(match code {
-        1 | 4 | 5 | 7 | 9 | 10 | 11 | 13 | 23 | 25 | 27 | 29 => (7, 7, false, 0),
-        2 | 6 | 12 | 15 | 17 | 18 | 24 | 26 => (7, 0, true, 2),
-        3 | 8 | 14 | 16 | 28 | 30 => (7, 0, true, 4),
+        1 | 4 | 5 | 7 | 9 | 10 | 11 | 13 | 23 | 25 | 27 | 29 | 31 | 33 => (7, 7, false, 0),
+        2 | 6 | 12 | 15 | 17 | 18 | 24 | 26 | 32 => (7, 0, true, 2),
+        3 | 8 | 14 | 16 | 28 | 30 | 34 => (7, 0, true, 4),
         19 => (0, 1, false, 0),
         20 | 21 => (7, 0, true, 0),
         22 => (0, 0, false, 0),
@@ -383,6 +397,19 @@ fn effect(s: &State, cells: [u16; 4], memory: &[u16]) -> Result<Effect, u8> {
             let (h, l) = pack_long(n);
             next(Change::Pair(r1, h, l), sign_code(n))
         }
+        31 | 32 if r1 % 2 == 0 => {
+            let (h, l) = pack_long(multiply(short(s.float[r1]), short(second_short()), 6, 14, s.mask == 1)?);
+            next(Change::Pair(r1, h, l), s.code)
+        }
+        31 | 32 => {
+            let n = multiply(short(s.float[r1]), short(second_short()), 6, 6, s.mask == 1)?;
+            next(Change::Float(r1, pack_short(n)), s.code)
+        }
+        33 | 34 => {
+            let ((a, b), (c, d)) = (pair(r1), second_long());
+            let (h, l) = pack_long(multiply(long(a, b), long(c, d), 14, 14, s.mask == 1)?);
+            next(Change::Pair(r1, h, l), s.code)
+        }
         _ => return Err(12),
     })
 }
@@ -520,9 +547,10 @@ pub fn back(s: &mut State, b: &mut Buffers) -> u8 {
 
 // ---- deck text
 
-pub const MNEMONICS: [&str; 30] = [
+pub const MNEMONICS: [&str; 34] = [
     "LER", "LE", "LED", "LECR", "CER", "CE", "CEDR", "CED", "CVFX", "CVFL", "DER", "DE", "DEDR", "DED", "STE",
     "STED", "L", "ST", "UM", "JC", "JN", "HALT", "AER", "AE", "SER", "SE", "AEDR", "AED", "SEDR", "SED",
+    "MER", "ME", "MEDR", "MED",
 ];
 
 fn decimal(v: &[u8]) -> Option<u16> {
@@ -579,6 +607,10 @@ fn mnemonic(v: &[u8]) -> Option<u16> {
         b"AED" => 28,
         b"SEDR" => 29,
         b"SED" => 30,
+        b"MER" => 31,
+        b"ME" => 32,
+        b"MEDR" => 33,
+        b"MED" => 34,
         _ => return None,
     })
 }

@@ -91,6 +91,31 @@ fn add(a: u32, fa: u64, b: u32, fb: u64, d: u32, mask: bool) -> Q {
     }
     Q::Of((a >> 31 ^ (sum < 0) as u32) << 7 | c as u32, g << (4 * z) >> (64 - 4 * d))
 }
+/// The product of two fractions of d digits, cut to e: their first digit is at most four places from that of a word of 16
+/// or 32 digits.
+#[inline(always)]
+fn multiply(ca: u32, fa: u64, cb: u32, fb: u64, d: u32, e: u32, mask: bool) -> Q {
+    if fa == 0 || fb == 0 {
+        return Q::Zero;
+    }
+    let (z, f) = if d == 6 {
+        let p = fa * fb;
+        let z = p.leading_zeros() / 4;
+        (z, p << (4 * z) >> (64 - 4 * e))
+    } else {
+        let p = fa as u128 * fb as u128;
+        let z = p.leading_zeros() / 4;
+        (z, (p << (4 * z) >> (128 - 4 * e)) as u64)
+    };
+    let c = (ca + cb) as i32 - 60 - z as i32;
+    if c > 127 {
+        return Q::Stop(9);
+    }
+    if c < 0 {
+        return if mask { Q::Stop(10) } else { Q::Zero };
+    }
+    Q::Of(c as u32, f)
+}
 #[inline(always)]
 fn ch(w: u32) -> u32 {
     w >> 24 & 127
@@ -148,16 +173,16 @@ impl Run<'_> {
     }
 }
 
-const LIMITS: [(u16, u16, u16, u8, u8); 31] = {
-    let mut t = [(0u16, 0u16, 0u16, 0u8, 0u8); 31];
+const LIMITS: [(u16, u16, u16, u8, u8); 35] = {
+    let mut t = [(0u16, 0u16, 0u16, 0u8, 0u8); 35];
     let mut k = 1;
-    while k < 31 {
+    while k < 35 {
         t[k] = match k {
-            1 | 4 | 5 | 7 | 9 | 10 | 11 | 13 | 23 | 25 | 27 | 29 => (7, 7, 0, 0, 0),
+            1 | 4 | 5 | 7 | 9 | 10 | 11 | 13 | 23 | 25 | 27 | 29 | 31 | 33 => (7, 7, 0, 0, 0),
             15 | 18 => (7, 0, 65535, 2, 2),
             16 => (7, 0, 65535, 4, 4),
-            2 | 6 | 12 | 17 | 24 | 26 => (7, 0, 65535, 2, 0),
-            3 | 8 | 14 | 28 | 30 => (7, 0, 65535, 4, 0),
+            2 | 6 | 12 | 17 | 24 | 26 | 32 => (7, 0, 65535, 2, 0),
+            3 | 8 | 14 | 28 | 30 | 34 => (7, 0, 65535, 4, 0),
             19 => (0, 1, 0, 0, 0),
             22 => (0, 0, 0, 0, 0),
             _ => (7, 0, 65535, 0, 0),
@@ -191,7 +216,7 @@ pub fn run(st: &mut State, b: &mut Buffers, limit: u32) -> (u32, u8) {
         }
         let o = &deck[4 * p..4 * p + 4];
         let (code, r1, r2, at) = (o[0], o[1], o[2], o[3]);
-        if code == 0 || code > 30 {
+        if code == 0 || code > 34 {
             stop = 5;
             break;
         }
@@ -383,7 +408,7 @@ pub fn run(st: &mut State, b: &mut Buffers, limit: u32) -> (u32, u8) {
                     Q::Of(c, f) => m.float(i, c << 24 | f as u32, if c > 127 { 3 } else { 1 }, next),
                 }
             }
-            _ => {
+            27..=30 => {
                 let (h, l) = if code & 1 == 1 {
                     (s.float[j], s.float[(j + 1) & 7])
                 } else {
@@ -398,6 +423,37 @@ pub fn run(st: &mut State, b: &mut Buffers, limit: u32) -> (u32, u8) {
                     }
                     Q::Zero => m.pair(i, 0, 0, 0, next),
                     Q::Of(c, f) => m.pair(i, c << 24 | (f >> 32) as u32, f as u32, if c > 127 { 3 } else { 1 }, next),
+                }
+            }
+            31 | 32 => {
+                let y = if code == 31 { s.float[j] } else { word(memory, a) };
+                let sign = (fa ^ y) & 0x8000_0000;
+                // an even register: both words of the long format
+                let e = if i % 2 == 0 { 14 } else { 6 };
+                match multiply(ch(fa), fr(fa), ch(y), fr(y), 6, e, mask == 1) {
+                    Q::Stop(n) => {
+                        stop = n;
+                        break;
+                    }
+                    Q::Zero if e == 14 => m.pair(i, 0, 0, cc, next),
+                    Q::Zero => m.float(i, 0, cc, next),
+                    Q::Of(c, f) if e == 14 => m.pair(i, sign | c << 24 | (f >> 32) as u32, f as u32, cc, next),
+                    Q::Of(c, f) => m.float(i, sign | c << 24 | f as u32, cc, next),
+                }
+            }
+            _ => {
+                let (h, l) = if code == 33 {
+                    (s.float[j], s.float[(j + 1) & 7])
+                } else {
+                    (word(memory, a), word(memory, a + 2))
+                };
+                match multiply(ch(fa), fr(fa) << 32 | fb as u64, ch(h), fr(h) << 32 | l as u64, 14, 14, mask == 1) {
+                    Q::Stop(n) => {
+                        stop = n;
+                        break;
+                    }
+                    Q::Zero => m.pair(i, 0, 0, cc, next),
+                    Q::Of(c, f) => m.pair(i, (fa ^ h) & 0x8000_0000 | c << 24 | (f >> 32) as u32, f as u32, cc, next),
                 }
             }
         }
@@ -551,7 +607,11 @@ fn code(key: u32) -> Option<u16> {
         AEDR = 27,
         AED = 28,
         SEDR = 29,
-        SED = 30
+        SED = 30,
+        MER = 31,
+        ME = 32,
+        MEDR = 33,
+        MED = 34
     )
 }
 

@@ -10,7 +10,7 @@ const CALLS: u64 = 1_200_000;
 fn order(r: &mut Random, orders: u64, memory: u64) -> [u16; 4] {
     let mut cells = [0u16; 4];
     loop {
-        cells[0] = r.below(30) as u16 + 1;
+        cells[0] = r.below(34) as u16 + 1;
         // HALT ends a run, so it is seldom
         if cells[0] != 22 || r.chance(20) {
             break;
@@ -22,7 +22,7 @@ fn order(r: &mut Random, orders: u64, memory: u64) -> [u16; 4] {
         _ => r.below(memory + 2) as u16,
     };
     match cells[0] {
-        2 | 3 | 6 | 8 | 12 | 14..=18 | 20 | 21 | 24 | 26 | 28 | 30 => (cells[1], cells[3]) = (register, at),
+        2 | 3 | 6 | 8 | 12 | 14..=18 | 20 | 21 | 24 | 26 | 28 | 30 | 32 | 34 => (cells[1], cells[3]) = (register, at),
         19 => cells[2] = register % 2,
         22 => {}
         _ => (cells[1], cells[2]) = (register, r.below(8) as u16),
@@ -81,17 +81,25 @@ fn buffers(r: &mut Random) -> Buffers {
     }
 }
 
-/// Pairs and storage near one number, so that sums cancel and carry.
+/// Pairs and storage near one number, so that sums cancel and carry, or such that products stand at the limits.
 fn alike(r: &mut Random, s: &mut State, memory: &mut [u16]) {
     let words = [r.float(), r.float()].map(u64::from);
     let number = words[0] << 32 | words[r.below(2) as usize];
     for pair in s.float.chunks_exact_mut(2) {
-        let w = r.near(number);
+        let w = other(r, number);
         pair.copy_from_slice(&[(w >> 32) as u32, w as u32]);
     }
     for halfwords in memory.chunks_exact_mut(4) {
-        let w = r.near(number);
+        let w = other(r, number);
         halfwords.copy_from_slice(&[(w >> 48) as u16, (w >> 32) as u16, (w >> 16) as u16, w as u16]);
+    }
+}
+
+fn other(r: &mut Random, number: u64) -> u64 {
+    if r.chance(3) {
+        r.at_limit(number)
+    } else {
+        r.near(number)
     }
 }
 

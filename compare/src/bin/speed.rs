@@ -156,10 +156,10 @@ fn words(r: &mut Random, mask: u32) -> Vec<u16> {
 fn text(r: &mut Random) -> Vec<u8> {
     let mut t = b"op r1 r2 at\n".to_vec();
     loop {
-        let code = r.below(30) as usize;
+        let code = r.below(34) as usize;
         let (a, b) = (r.below(8), r.below(8));
         let line = match code + 1 {
-            1 | 4 | 5 | 7 | 9 | 10 | 11 | 13 | 23 | 25 | 27 | 29 => format!("{} {a} {b} 0\n", MNEMONICS[code]),
+            1 | 4 | 5 | 7 | 9 | 10 | 11 | 13 | 23 | 25 | 27 | 29 | 31 | 33 => format!("{} {a} {b} 0\n", MNEMONICS[code]),
             19 => format!("UM 0 {} 0\n", b % 2),
             22 => "HALT 0 0 0\n".to_string(),
             _ => format!("{} {a} 0 {}\n", MNEMONICS[code], r.below(4_000)),
@@ -260,16 +260,21 @@ fn main() {
     let mut walking = near_one;
     (walking.float[6], walking.float[7]) = (0x4180_2345, 0x417f_fedc);
     let addends = vec![0x4208, 0x0123, 0x4567, 0x89ab, 0x4207, 0xffed, 0xcba9, 0x8765];
+    // multipliers a little above and a little below one; even registers fill a pair, odd ones one register
+    let short_products: Vec<[u16; 4]> = (0..12).map(|k| [31, k % 6, 6 + k % 2, 0]).collect();
+    let long_products: Vec<[u16; 4]> = (0..12).map(|k| [34, k % 3 * 2, 0, k % 2 * 4]).collect();
     let rows = [
         run("(a) a mixed deck with loops", &mixed, floats(r, 0x80ff_ffff), words(r, 0xff_ffff)),
         run("(b) short divides", &shorts, near_one, vec![0; 64]),
-        run("(c) long divides, unnormalised", &longs, floats(r, 0x800f_ffff), unnormalised),
+        run("(c) long divides, unnormalised", &longs, floats(r, 0x800f_ffff), unnormalised.clone()),
         run("(d) compares", &compares, floats(r, 0x80ff_ffff), vec![0; 64]),
         run("(e) loads and stores", &moves, floats(r, 0x80ff_ffff), words(r, 0xff_ffff)),
         stepping("(f) single steps of the mixed deck", &mixed, floats(r, 0x80ff_ffff), words(r, 0xff_ffff)),
         reading(r),
         run("(h) short sums", &short_sums, walking, vec![0; 64]),
         run("(i) long sums, unnormalised", &long_sums, floats(r, 0x800f_ffff), addends),
+        run("(j) short products", &short_products, near_one, vec![0; 64]),
+        run("(k) long products, unnormalised", &long_products, floats(r, 0x800f_ffff), unnormalised),
     ];
     println!("{:<36} {:>8} {:>8} {:>8} {:>9} {:>9}", "", "proved", "plain", "tuned", "to plain", "to tuned");
     for r in &rows {

@@ -1,24 +1,27 @@
 -- The theorems on products of specs/Theorems.antt, over the digits d of the operands and e of the result.
-use mathlib.Core.Path.{_≡_, refl, sym, ap, ap₂, _∙_, subst}
-use mathlib.Core.Bool.{Bool}
+use mathlib.Core.Path.{_≡_, refl, sym, ap, ap₂, _∙_, subst, subst⁻¹}
+use mathlib.Core.Bool.{Bool, true, false}
 use mathlib.Core.Logic.{_⊎_, inl, inr}
-use Prim.Native.Nat.{ℕ, _+_, _-_, _*_, _/_, _%_, _^_, _≤_, _<_}
-use native.Mathlib.Nat.{le-trans, le-of-eq, le-of-lt, lt-of-lt-of-le, lt-of-le-of-lt, mul-le-mul-right, mul-lt-mul-of-pos-left, mul-lt-mul-of-pos-right, mul-assoc, mul-comm, mul-mul-mul-comm, mul-div-cancel, mul-mod-left, mod-eq-of-lt, add-comm, zero-mul}
+use Prim.Native.Nat.{ℕ, suc, _+_, _-_, _*_, _/_, _%_, _^_, _≤_, _<_}
+use native.Mathlib.Nat.{le-trans, le-of-eq, le-of-lt, lt-of-lt-of-le, lt-of-le-of-lt, mul-le-mul-right, mul-lt-mul-of-pos-left, mul-lt-mul-of-pos-right, mul-assoc, mul-comm, mul-mul-mul-comm, mul-div-cancel, mul-mod-left, mod-eq-of-lt, add-comm, zero-mul, mul-pos, div-eq-of-lt, div-div-eq-div-mul, mul-div-mul-right}
 use native.Mathlib.Omega.{arith}
 use lib.Pow.{pow-add}
 use Rattle.hexfloat.specs.declared.word.Parts.{Parts}
-use Rattle.hexfloat.specs.Answer.{Answer, gives}
-use Rattle.hexfloat.specs.Multiply.{product}
+use Rattle.hexfloat.specs.declared.word.Width.{Width}
+use Rattle.hexfloat.specs.declared.word.Width.the-variants.{Short, Long}
+use Rattle.hexfloat.specs.declared.word.Words.{Words}
+use Rattle.hexfloat.specs.Answer.{Answer, gives, stops, mapped}
+use Rattle.hexfloat.specs.Multiply.{product, productWords}
 use Rattle.hexfloat.specs.Normal.{IsCharacteristic, IsBelowZero, IsFraction}
 use Rattle.hexfloat.specs.Result.{signByAlgebra, resultOf, underflow}
-use Rattle.hexfloat.specs.Theorems.{ExactProduct, ProductLaws, LosesNothing, ExactOrUnderflow}
-use Rattle.hexfloat.specs.Word.{magnitude, trueZero}
+use Rattle.hexfloat.specs.Theorems.{ExactResult, ExactProduct, withoutLast, ProductLaws, ProductWordLaws, LosesNothing, ExactOrUnderflow}
+use Rattle.hexfloat.specs.Word.{digitsOf, partsOf, wordsOf, shortWords, magnitude, trueZero}
 use Rattle.hexfloat.proofs.Answers.{gives-inj, never}
 use Rattle.hexfloat.proofs.Digits.{pos, power-lt}
 use Rattle.hexfloat.proofs.Multiplied.{zero-first, zero-second}
 use Rattle.hexfloat.proofs.Normalised.{magnitude-zero}
 use Rattle.hexfloat.proofs.Placed.{parted}
-use Rattle.hexfloat.proofs.Ratio.{cut-unique}
+use Rattle.hexfloat.proofs.Ratio.{cut-is, cut-unique}
 use Rattle.hexfloat.proofs.Theorems.{one-number, exact-result, result-cases}
 
 pub exact-product : (d e : ℕ) (mask : Bool) (x y : Parts) → ExactProduct d e mask x y
@@ -37,11 +40,60 @@ swapped : (d e : ℕ) (mask : Bool) (x y : Parts) → product d e mask x y ≡ p
 unfolding product
 swapped d e mask x y = ap₂ (λ (s a : ℕ). resultOf e mask s a (16 ^ 156)) (sign-swapped x y) (mul-comm (magnitude d x) (magnitude d y))
 
+-- fewer digits of a ratio are the first of more
+fewer : (e k : ℕ) {a b c f : ℕ} → 0 < b → IsFraction (e + k) a b c f → IsFraction e a b c (f / 16 ^ k)
+fewer e k {a} {b} {c} {f} hb s = subst⁻¹ (IsFraction e a b c) same (record { least = r .0; most = r .1 })
+  where
+    unit : ℕ
+    unit = 16 ^ c * b
+
+    r : (a * 16 ^ (64 + e) / unit * unit ≤ a * 16 ^ (64 + e)) × (a * 16 ^ (64 + e) < suc (a * 16 ^ (64 + e) / unit) * unit)
+    r = cut-is (a * 16 ^ (64 + e)) unit (mul-pos (pos c) hb)
+
+    same : f / 16 ^ k ≡ a * 16 ^ (64 + e) / unit
+    same =
+        ap (λ (x : ℕ). x / 16 ^ k) (sym (cut-unique (a * 16 ^ (64 + (e + k))) unit f (s .least) (s .most)))
+        ∙ div-div-eq-div-mul (a * 16 ^ (64 + (e + k))) unit (16 ^ k)
+        ∙ ap (λ (x : ℕ). x / (unit * 16 ^ k)) (parted a (64 + e) k (64 + (e + k)) (omega arith))
+        ∙ mul-div-mul-right (a * 16 ^ (64 + e)) unit (pos k)
+
+-- so is the result of fewer
+first-digits : (d e k : ℕ) (mask : Bool) (x y : Parts) → product d e mask x y ≡ mapped (withoutLast k) (product d (e + k) mask x y)
+unfolding product
+first-digits d e k mask x y =
+    result-cases (e + k) mask (signByAlgebra x y) (magnitude d x * magnitude d y) (16 ^ 156) (pos 156) (λ r. resultOf e mask (signByAlgebra x y) (magnitude d x * magnitude d y) (16 ^ 156) ≡ mapped (withoutLast k) r)
+    (λ z. few .zero z ∙ ap (λ (f : ℕ). gives (record { sign = 0; characteristic = 0; fraction = f })) (sym (div-eq-of-lt (pos k))))
+    (λ c r h. few .overflows c r h)
+    (λ j hj r. few .underflows j hj r ∙ by-mask mask)
+    (λ c f r h s. few .cut c (f / 16 ^ k) r h (fewer e k (pos 156) s))
+  where
+    few : ExactResult e mask (signByAlgebra x y) (magnitude d x * magnitude d y) (16 ^ 156)
+    few = exact-result e mask (signByAlgebra x y) (magnitude d x * magnitude d y) (16 ^ 156) (pos 156)
+
+    by-mask : (m : Bool) → underflow m ≡ mapped (withoutLast k) (underflow m)
+    by-mask true = refl
+    by-mask false = ap (λ (f : ℕ). gives (record { sign = 0; characteristic = 0; fraction = f })) (sym (div-eq-of-lt (pos k)))
+
 pub product-laws : (d e : ℕ) (mask : Bool) (x y : Parts) → ProductLaws d e mask x y
 product-laws d e mask x y = record {
   interchanged = swapped d e mask x y;
   zero-first = zero-first d e mask x y;
   zero-second = zero-second d e mask x y;
+  first-digits = λ k. first-digits d e k mask x y;
+}
+
+-- the first word of a long number is the short one of its first six digits
+one-word : (r : Answer Parts) → mapped (wordsOf Short) (mapped (withoutLast 8) r) ≡ mapped (λ w. shortWords (w .high)) (mapped (wordsOf Long) r)
+one-word (gives p) = refl
+one-word (stops n) = refl
+
+pub product-word-laws : (v w : Width) (mask : Bool) (a b : Words) → ProductWordLaws v w mask a b
+unfolding productWords
+product-word-laws v w mask a b = record {
+  interchanged = ap (mapped (wordsOf w)) (swapped (digitsOf v) (digitsOf w) mask (partsOf v a) (partsOf v b));
+  first-word =
+      ap (mapped (wordsOf Short)) (first-digits (digitsOf v) 6 8 mask (partsOf v a) (partsOf v b))
+      ∙ one-word (product (digitsOf v) 14 mask (partsOf v a) (partsOf v b));
 }
 
 -- a product of numbers below others

@@ -8,8 +8,9 @@ use Rattle.hexfloat.specs.declared.signed.Signed.{Signed}
 use Rattle.hexfloat.specs.declared.word.Coded.{Coded}
 use Rattle.hexfloat.specs.declared.word.Parts.{Parts}
 use Rattle.hexfloat.specs.declared.word.Width.{Width}
+use Rattle.hexfloat.specs.declared.word.Width.the-variants.{Short, Long}
 use Rattle.hexfloat.specs.declared.word.Words.{Words}
-use Rattle.hexfloat.specs.Answer.{Answer, gives, stops}
+use Rattle.hexfloat.specs.Answer.{Answer, gives, stops, mapped}
 use Rattle.hexfloat.specs.Word.{trueZero, magnitude, shortWords}
 use Rattle.hexfloat.specs.Condition.{IsCondition, operandCondition, generalCondition}
 use Rattle.hexfloat.specs.Compare.{positive, negative, comparedWords}
@@ -95,11 +96,22 @@ pub record ExactProduct (d e : ℕ) (mask : Bool) (x y : Parts) : Type 0 where
   pub result : ExactResult e mask (signByAlgebra x y) (magnitude d x * magnitude d y) (16 ^ 156)
   pub number : 0 < magnitude d x * magnitude d y → OneNumber e (magnitude d x * magnitude d y) (16 ^ 156)
 
--- 8.24, 8.25: the operands may be interchanged; a zero fraction of either gives true zero, and no stop.
+-- a number without the last k digits of its fraction
+abbrev pub withoutLast : ℕ → Parts → Parts
+withoutLast k p = record { sign = p .sign; characteristic = p .characteristic; fraction = p .fraction / 16 ^ k }
+
+-- 8.24, 8.25: the operands may be interchanged; a zero fraction of either gives true zero, and no stop. A product of fewer digits has the first ones of a
+-- product of more.
 pub record ProductLaws (d e : ℕ) (mask : Bool) (x y : Parts) : Type 0 where
   pub interchanged : product d e mask x y ≡ product d e mask y x
   pub zero-first : x .fraction ≡ 0 → product d e mask x y ≡ gives trueZero
   pub zero-second : y .fraction ≡ 0 → product d e mask x y ≡ gives trueZero
+  pub first-digits : (k : ℕ) → product d e mask x y ≡ mapped (withoutLast k) (product d (e + k) mask x y)
+
+-- The same of words: what an odd register gets is the first word of what an even one and the next get.
+pub record ProductWordLaws (v w : Width) (mask : Bool) (a b : Words) : Type 0 where
+  pub interchanged : productWords v w mask a b ≡ productWords v w mask b a
+  pub first-word : productWords v Short mask a b ≡ mapped (λ r. shortWords (r .high)) (productWords v Long mask a b)
 
 -- 8.25: a product p of e digits, twice the operands' d or more, loses nothing. It is the exact product, with zeros for the digits that it has more;
 -- or the exact product has a characteristic below 0, and it underflows.

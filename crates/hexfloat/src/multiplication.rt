@@ -13,9 +13,9 @@ ghost use Rattle.hexfloat.specs.Operand.{Factors};
 ghost use Rattle.hexfloat.specs.Result.{saysResult};
 ghost use Rattle.hexfloat.specs.Word.{digitsOf};
 
-// What two places and the 16 digits of a product's first part are above its characteristic: 14 for
-// each place, 64 for the characteristic that is counted twice, and the 16.
-const EXCESS: u32 = 108;
+// A product's characteristic is the sum of its factors' less 64, for a fraction with its point before
+// the 16 digits of `high`; a factor's place is its characteristic and 14.
+const EXCESS: u32 = 64 + 16 + 2 * 14;
 
 pub fn multiply(operands: Width, width: Width, mask: bool, a: Words, b: Words) -> Result
     ensures { λ r. ⌜ saysResult r ≡ productWords operands width mask a b ⌝ }
