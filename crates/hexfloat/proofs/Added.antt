@@ -1,18 +1,16 @@
 -- Laws of sums: what the code of an addition has at hand, and what follows of the intermediate sum and its result.
 use mathlib.Core.Path.{_≡_}
 use mathlib.Core.Logic.{⊎-elim}
-use Prim.Native.Nat.{ℕ, _+_, _-_, _*_, _^_, _≤_, _<_}
+use Prim.Native.Nat.{ℕ, _^_, _≤_, _<_}
 use native.Mathlib.Nat.{eq-zero-or-pos}
 use native.Mathlib.Omega.{arith}
 use borrow.Author.Tests.{eq-eqb, ne-eqb}
 use Rattle.hexfloat.specs.declared.word.Parts.{Parts}
 use Rattle.hexfloat.specs.Add.{input, commonCharacteristic, aligned, intermediateSum}
-use Rattle.hexfloat.specs.Normal.{digits}
-use Rattle.hexfloat.specs.Operand.{Operand, IsPlaced, leadingDigits}
+use Rattle.hexfloat.specs.Operand.{Operand}
 use Rattle.hexfloat.specs.Word.{trueZero}
-use Rattle.hexfloat.proofs.Digits.{pos, digits-are}
+use Rattle.hexfloat.proofs.Digits.{pos}
 use Rattle.hexfloat.proofs.Signs.{signed-sign, sum-most}
-use Rattle.hexfloat.proofs.Wholes.{whole-placed}
 
 -- an input is true zero or the operand itself
 pub input-zero : (p : Parts) → p .fraction ≡ 0 → input p ≡ trueZero
@@ -39,8 +37,3 @@ pub sum-fits : (x y : Parts) → aligned 1 (commonCharacteristic x y) x < 16 ^ 1
 unfolding intermediateSum
 sum-fits x y hx hy =
     (signed-sign _ _, omega (arith, sum-most (x .sign) (aligned 1 (commonCharacteristic x y) x) (y .sign) (aligned 1 (commonCharacteristic x y) y)))
-
--- so an intermediate sum s at the characteristic c, of which d + 1 digits are behind the point, is this much
-pub sum-placed : (d s c : ℕ) → 0 < s → digits s ≤ 16 → d ≤ 16 → IsPlaced d (s * 16 ^ c) (16 ^ (65 + d)) (c + digits s) (d + 1) (leadingDigits d s)
-sum-placed d s c some few fits =
-    whole-placed d s (digits s) (16 - digits s) (16 - d) (digits-are s .least some) (digits-are s .most) (omega arith) c (65 + d) (c + digits s) (d + 1) (omega arith)

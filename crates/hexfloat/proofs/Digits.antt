@@ -2,7 +2,7 @@
 use mathlib.Core.Path.{_≡_, refl, sym, ap, _∙_}
 use mathlib.Core.Logic.{⊎-elim}
 use Prim.Native.Nat.{ℕ, zero, suc, _+_, _*_, _/_, _%_, _^_, _≤_, _<_, zero-le}
-use native.Mathlib.Nat.{mod-eq-of-lt, mul-right-comm, le-refl, le-trans, le-of-eq, lt-of-lt-of-le, le-antisymm, le-of-suc-le-suc, lt-of-not-le, not-le-of-lt, zero-lt-suc, one-le-pow, pow-suc, pow-le-pow-right, mul-le-mul-right, mul-lt-mul-of-pos-right, lt-of-mul-lt-mul-right, div-mul-le-self, div-lt-iff-lt-mul, eq-zero-or-pos}
+use native.Mathlib.Nat.{mod-eq-of-lt, mul-right-comm, le-refl, le-trans, le-of-eq, lt-of-lt-of-le, lt-of-le-of-lt, le-of-lt, le-antisymm, le-of-suc-le-suc, lt-of-not-le, not-le-of-lt, zero-lt-suc, one-le-pow, pow-suc, pow-le-pow-right, mul-le-mul-right, mul-lt-mul-of-pos-left, mul-lt-mul-of-pos-right, lt-of-mul-lt-mul-right, div-mul-le-self, div-lt-iff-lt-mul, eq-zero-or-pos}
 use native.Mathlib.Omega.{arith}
 use lib.Pow.{pow-add, pow-mono}
 use lib.Count.{leadingZeros, leading-top, leading-of-zero}
@@ -17,6 +17,10 @@ mono h = pow-le-pow-right (zero-lt-suc 15) h
 -- powers in order have exponents in order
 pub power-lt : {i j : ℕ} → 16 ^ i < 16 ^ j → i < j
 power-lt h = lt-of-not-le (λ (g : _ ≤ _). not-le-of-lt h (mono g))
+
+-- a product of numbers below others is below theirs
+pub product-below : {a b m n : ℕ} → a < m → b < n → a * b < m * n
+product-below {a} {b} h l = lt-of-le-of-lt (mul-le-mul-right b (le-of-lt h)) (mul-lt-mul-of-pos-left l (omega arith))
 
 -- a hexadecimal digit is four bits
 pub four-bits : (k : ℕ) → 2 ^ (4 * k) ≡ 16 ^ k

@@ -1,8 +1,8 @@
 -- What the code of a multiplication has at hand, and what follows of the product.
-use mathlib.Core.Path.{_≡_, refl, sym, ap, ap₂, _∙_}
+use mathlib.Core.Path.{_≡_, refl, sym, ap, ap₂, _∙_, subst⁻¹}
 use mathlib.Core.Bool.{Bool}
-use Prim.Native.Nat.{ℕ, suc, _+_, _-_, _*_, _/_, _%_, _^_, _≤_, _<_}
-use native.Mathlib.Nat.{le-trans, le-of-eq, le-of-lt, lt-of-lt-of-le, lt-of-le-of-lt, not-le-of-lt, lt-of-not-le, le-of-suc-le-suc, le-add-right, mul-le-mul, mul-le-mul-right, mul-lt-mul-of-pos-right, le-of-mul-le-mul-right, lt-of-mul-lt-mul-right, mul-assoc, mul-right-comm, mul-mul-mul-comm, mul-add, add-mul, suc-mul, div-add-mod', mod-lt, div-lt-iff-lt-mul, div-div-eq-div-mul, mul-div-mul-right, zero-mul, mul-zero}
+use Prim.Native.Nat.{ℕ, _+_, _-_, _*_, _/_, _%_, _^_, _≤_, _<_}
+use native.Mathlib.Nat.{le-trans, le-of-eq, lt-of-lt-of-le, not-le-of-lt, lt-of-not-le, mul-le-mul, mul-le-mul-right, mul-assoc, mul-right-comm, mul-mul-mul-comm, mul-add, add-mul, div-add-mod', div-div-eq-div-mul, mul-div-mul-right, zero-mul, mul-zero, mul-pos, pos-of-ne-zero}
 use native.Mathlib.Omega.{arith}
 use lib.Arith.{digits-div}
 use lib.Pow.{pow-add}
@@ -13,15 +13,15 @@ use Rattle.hexfloat.specs.declared.word.Words.{Words}
 use Rattle.hexfloat.specs.Answer.{gives, mapped}
 use Rattle.hexfloat.specs.Multiply.{product, productWords}
 use Rattle.hexfloat.specs.Normal.{digits}
-use Rattle.hexfloat.specs.Operand.{Factors, IsPlaced, leadingDigits}
+use Rattle.hexfloat.specs.Operand.{Factors, IsPlaced, leadingDigits, normalised}
 use Rattle.hexfloat.specs.Result.{resultOf, signByAlgebra}
 use Rattle.hexfloat.specs.Word.{digitsOf, partsOf, wordsOf, trueZero, magnitude}
-use Rattle.hexfloat.proofs.Digits.{pos, mono, digits-are, digits-le, same-power}
-use Rattle.hexfloat.proofs.Normalised.{Bounds, magnitude-zero}
+use Rattle.hexfloat.proofs.Digits.{pos, mono, product-below, digits-are, digits-le}
+use Rattle.hexfloat.proofs.Normalised.{Bounds, bounds, magnitude-zero}
 use Rattle.hexfloat.proofs.Placed.{same-place}
 use Rattle.hexfloat.proofs.Results.{of-zero}
 use Rattle.hexfloat.proofs.Scaled.{scaled-result}
-use Rattle.hexfloat.proofs.Wholes.{whole-placed}
+use Rattle.hexfloat.proofs.Wholes.{whole-placed, leading-placed}
 
 -- two numbers in two parts each, multiplied out
 expanded : (x y z w u : ℕ) → (x * u + y) * (z * u + w) ≡ x * z * (u * u) + (x * w + y * z) * u + y * w
@@ -54,7 +54,7 @@ module _ (a b : ℕ) where
   abbrev pub middle : ℕ
   middle = high-by-low + low-by-high + low-by-low / 16 ^ 6
 
-  pub partial : a * b ≡ high-by-high * 16 ^ 12 + (high-by-low + low-by-high) * 16 ^ 6 + low-by-low
+  partial : a * b ≡ high-by-high * 16 ^ 12 + (high-by-low + low-by-high) * 16 ^ 6 + low-by-low
   partial = ap₂ (λ (x y : ℕ). x * y) (sym (div-add-mod' a (16 ^ 6))) (sym (div-add-mod' b (16 ^ 6))) ∙ expanded (a / 16 ^ 6) (a % 16 ^ 6) (b / 16 ^ 6) (b % 16 ^ 6) (16 ^ 6)
 
   -- the code's two parts are the whole
@@ -62,9 +62,6 @@ module _ (a b : ℕ) where
   parts-whole = omega (arith, partial)
 
   module _ (ha : a < 16 ^ 14) (hb : b < 16 ^ 14) where
-    pub high-by-high-most : high-by-high ≤ 16 ^ 16
-    high-by-high-most = mul-le-mul {n₂ = 16 ^ 8} {m₂ = 16 ^ 8} (omega arith) (omega arith)
-
     pub high-by-low-most : high-by-low ≤ 16 ^ 14
     high-by-low-most = mul-le-mul {n₂ = 16 ^ 8} {m₂ = 16 ^ 6} (omega arith) (omega arith)
 
@@ -74,19 +71,8 @@ module _ (a b : ℕ) where
     pub low-by-low-most : low-by-low ≤ 16 ^ 12
     low-by-low-most = mul-le-mul {n₂ = 16 ^ 6} {m₂ = 16 ^ 6} (omega arith) (omega arith)
 
-    product-most : a * b < 16 ^ 28
-    product-most = lt-of-le-of-lt (mul-le-mul {n₂ = 16 ^ 14 - 1} {m₂ = 16 ^ 14 - 1} (omega arith) (omega arith)) (omega arith)
-
     pub first-part-most : high-by-high + middle / 16 ^ 6 < 16 ^ 16
-    first-part-most = omega (arith, parts-whole, product-most)
-
--- Two fractions of six digits: their product of 12, as the first of 28.
-module _ (a b : ℕ) (ha : a < 16 ^ 6) (hb : b < 16 ^ 6) where
-  pub short-most : a * b < 16 ^ 12
-  short-most = lt-of-le-of-lt (mul-le-mul {n₂ = 16 ^ 6 - 1} {m₂ = 16 ^ 6 - 1} (omega arith) (omega arith)) (omega arith)
-
-  pub short-whole : a * b * 2 ^ 16 % 2 ^ 64 * 16 ^ 12 + 0 ≡ a * b * 16 ^ 16
-  short-whole = omega (arith, short-most)
+    first-part-most = omega (arith, parts-whole, product-below ha hb)
 
 -- A product of 28 digits in two parts, of normalised fractions: its first part has all digits that are kept.
 module _ (p high low : ℕ) (whole : high * 16 ^ 12 + low ≡ p) (rest : low < 16 ^ 12) (normal : 16 ^ 26 ≤ p) where
@@ -129,47 +115,58 @@ module _ (p high low : ℕ) (whole : high * 16 ^ 12 + low ≡ p) (rest : low < 1
         same-place refl same-cut
         (whole-placed e p (digits high + 12) (16 - digits high) (28 - e) above below (omega (arith, few)) place 184 (place + digits high) 108 (omega arith))
 
--- Two operands that are not zero, and their normalised forms.
-module _ (d : ℕ) {x y : Parts} {n m : Normal} (few : d ≤ 14) (bx : Bounds d x n) (by : Bounds d y m) where
-  abbrev pub fractions : ℕ
-  fractions = n .fraction * m .fraction * 16 ^ (28 - 2 * d)
+-- The product of the magnitudes is that of the fractions, moved left by the places of both.
+module _ (d : ℕ) (x y : Parts) where
+  abbrev pub places : ℕ
+  places = x .characteristic + (14 - d) + (y .characteristic + (14 - d))
 
-  pub factors : Factors d (n .fraction) (m .fraction)
-  factors = record { first = bx .most; second = by .most }
+  pub product-moved : magnitude d x * magnitude d y ≡ x .fraction * y .fraction * 16 ^ places
+  unfolding magnitude
+  product-moved =
+      mul-mul-mul-comm (x .fraction) (16 ^ (x .characteristic + (14 - d))) (y .fraction) (16 ^ (y .characteristic + (14 - d)))
+      ∙ ap (λ (z : ℕ). x .fraction * y .fraction * z) (sym (pow-add 16 (x .characteristic + (14 - d)) (y .characteristic + (14 - d))))
 
-  pub normal-product : 16 ^ 26 ≤ fractions
-  normal-product = le-of-mul-le-mul-right {k = 256} (le-trans (le-of-eq squares) (le-trans (mul-le-mul-right (16 ^ (28 - 2 * d)) (mul-le-mul (bx .least) (by .least))) (le-of-eq spread))) (omega arith)
-    where
-      squares : 16 ^ 26 * 256 ≡ 16 ^ d * 16 ^ d * 16 ^ (28 - 2 * d)
-      squares = ap (λ (z : ℕ). 16 ^ z) (total d few) ∙ pow-add 16 (d + d) (28 - 2 * d) ∙ ap (λ (z : ℕ). z * 16 ^ (28 - 2 * d)) (pow-add 16 d d)
-        where
-          total : (d : ℕ) → d ≤ 14 → 28 ≡ d + d + (28 - 2 * d)
-          total d h = omega arith
+-- Two short operands that are not zero: the product of their fractions is whole in a u64.
+module _ {x y : Parts} (f : Factors 6 x y) where
+  pub short-most : x .fraction * y .fraction < 16 ^ 12
+  short-most = product-below (f .first .fraction) (f .second .fraction)
 
-      spread : n .fraction * 16 * (m .fraction * 16) * 16 ^ (28 - 2 * d) ≡ fractions * 256
-      spread = ap (λ (z : ℕ). z * 16 ^ (28 - 2 * d)) (mul-mul-mul-comm (n .fraction) 16 (m .fraction) 16) ∙ mul-right-comm (n .fraction * m .fraction) 256 (16 ^ (28 - 2 * d))
+  pub short-some : 0 < x .fraction * y .fraction
+  short-some = mul-pos (pos-of-ne-zero (f .some-first)) (pos-of-ne-zero (f .some-second))
+
+  pub short-placed : (e : ℕ) → e ≤ 14
+      → IsPlaced e (magnitude 6 x * magnitude 6 y) (16 ^ 156) (x .characteristic + y .characteristic + digits (x .fraction * y .fraction)) 76 (leadingDigits e (x .fraction * y .fraction))
+  short-placed e fits =
+      let p : ℕ = x .fraction * y .fraction in
+      let up : ℕ = x .characteristic + y .characteristic + digits p in
+      subst⁻¹ (λ (z : ℕ). IsPlaced e z (16 ^ 156) up 76 (leadingDigits e p)) (product-moved 6 x y)
+      (leading-placed e p (places 6 x y) 156 up 76 short-some (digits-le p 16 (omega (arith, short-most))) (omega arith) (omega arith))
+
+-- Two long operands that are not zero, and their normalised forms.
+module _ {x y : Parts} {n m : Normal} (f : Factors 14 x y) (en : n ≡ normalised 14 x) (em : m ≡ normalised 14 y) where
+  pub first-bounds : Bounds 14 x n
+  first-bounds = bounds (f .first) (f .some-first) en
+
+  pub second-bounds : Bounds 14 y m
+  second-bounds = bounds (f .second) (f .some-second) em
+
+  pub normal-product : 16 ^ 26 ≤ n .fraction * m .fraction
+  normal-product = mul-le-mul {n₁ = 16 ^ 13} {m₁ = 16 ^ 13} (omega (arith, first-bounds .least)) (omega (arith, second-bounds .least))
 
   -- the exact product, in the places of its factors
-  exact-product : magnitude d x * magnitude d y * 16 ^ 28 ≡ fractions * 16 ^ (n .place + m .place)
+  exact-product : magnitude 14 x * magnitude 14 y * 16 ^ 28 ≡ n .fraction * m .fraction * 16 ^ (n .place + m .place)
   exact-product =
-      ap (λ (z : ℕ). magnitude d x * magnitude d y * z) (ap (λ (z : ℕ). 16 ^ z) (total d few) ∙ pow-add 16 (d + d) (28 - 2 * d) ∙ ap (λ (z : ℕ). z * 16 ^ (28 - 2 * d)) (pow-add 16 d d))
-      ∙ sym (mul-assoc (magnitude d x * magnitude d y) (16 ^ d * 16 ^ d) (16 ^ (28 - 2 * d)))
-      ∙ ap (λ (z : ℕ). z * 16 ^ (28 - 2 * d))
-      (mul-mul-mul-comm (magnitude d x) (magnitude d y) (16 ^ d) (16 ^ d)
-      ∙ ap₂ (λ (u v : ℕ). u * v) (bx .exact) (by .exact)
+      mul-mul-mul-comm (magnitude 14 x) (magnitude 14 y) (16 ^ 14) (16 ^ 14)
+      ∙ ap₂ (λ (u v : ℕ). u * v) (first-bounds .exact) (second-bounds .exact)
       ∙ mul-mul-mul-comm (n .fraction) (16 ^ n .place) (m .fraction) (16 ^ m .place)
-      ∙ ap (λ (z : ℕ). n .fraction * m .fraction * z) (sym (pow-add 16 (n .place) (m .place))))
-      ∙ mul-right-comm (n .fraction * m .fraction) (16 ^ (n .place + m .place)) (16 ^ (28 - 2 * d))
-    where
-      total : (d : ℕ) → d ≤ 14 → 28 ≡ d + d + (28 - 2 * d)
-      total d h = omega arith
+      ∙ ap (λ (z : ℕ). n .fraction * m .fraction * z) (sym (pow-add 16 (n .place) (m .place)))
 
   -- so this is its result
-  pub result-kept : (e : ℕ) (mask : Bool) → resultOf e mask (signByAlgebra x y) (fractions * 16 ^ (n .place + m .place)) (16 ^ 184) ≡ product d e mask x y
+  pub result-kept : (e : ℕ) (mask : Bool) → resultOf e mask (signByAlgebra x y) (n .fraction * m .fraction * 16 ^ (n .place + m .place)) (16 ^ 184) ≡ product 14 e mask x y
   unfolding product
   result-kept e mask =
       ap₂ (resultOf e mask (signByAlgebra x y)) (sym exact-product) (pow-add 16 156 28)
-      ∙ scaled-result (16 ^ 28) (pos 28) (magnitude d x * magnitude d y) (16 ^ 156) e mask (signByAlgebra x y)
+      ∙ scaled-result (16 ^ 28) (pos 28) (magnitude 14 x * magnitude 14 y) (16 ^ 156) e mask (signByAlgebra x y)
 
 -- a zero fraction of either
 module _ (d e : ℕ) (mask : Bool) (x y : Parts) where

@@ -1,9 +1,9 @@
 -- The theorems on products of specs/Theorems.antt, over the digits d of the operands and e of the result.
 use mathlib.Core.Path.{_≡_, refl, sym, ap, ap₂, _∙_, subst, subst⁻¹}
 use mathlib.Core.Bool.{Bool, true, false}
-use mathlib.Core.Logic.{_⊎_, inl, inr}
+use mathlib.Core.Logic.{inl, inr}
 use Prim.Native.Nat.{ℕ, suc, _+_, _-_, _*_, _/_, _%_, _^_, _≤_, _<_}
-use native.Mathlib.Nat.{le-trans, le-of-eq, le-of-lt, lt-of-lt-of-le, lt-of-le-of-lt, mul-le-mul-right, mul-lt-mul-of-pos-left, mul-lt-mul-of-pos-right, mul-assoc, mul-comm, mul-mul-mul-comm, mul-div-cancel, mul-mod-left, mod-eq-of-lt, add-comm, zero-mul, mul-pos, div-eq-of-lt, div-div-eq-div-mul, mul-div-mul-right}
+use native.Mathlib.Nat.{le-trans, le-of-eq, lt-of-lt-of-le, lt-of-le-of-lt, mul-lt-mul-of-pos-right, mul-comm, mul-div-cancel, mul-mod-left, mod-eq-of-lt, add-comm, zero-mul, mul-pos, div-eq-of-lt, div-div-eq-div-mul, mul-div-mul-right}
 use native.Mathlib.Omega.{arith}
 use lib.Pow.{pow-add}
 use Rattle.hexfloat.specs.declared.word.Parts.{Parts}
@@ -12,13 +12,13 @@ use Rattle.hexfloat.specs.declared.word.Width.the-variants.{Short, Long}
 use Rattle.hexfloat.specs.declared.word.Words.{Words}
 use Rattle.hexfloat.specs.Answer.{Answer, gives, stops, mapped}
 use Rattle.hexfloat.specs.Multiply.{product, productWords}
-use Rattle.hexfloat.specs.Normal.{IsCharacteristic, IsBelowZero, IsFraction}
+use Rattle.hexfloat.specs.Normal.{IsCharacteristic, IsFraction}
 use Rattle.hexfloat.specs.Result.{signByAlgebra, resultOf, underflow}
 use Rattle.hexfloat.specs.Theorems.{ExactResult, ExactProduct, withoutLast, ProductLaws, ProductWordLaws, LosesNothing, ExactOrUnderflow}
 use Rattle.hexfloat.specs.Word.{digitsOf, partsOf, wordsOf, shortWords, magnitude, trueZero}
 use Rattle.hexfloat.proofs.Answers.{gives-inj, never}
-use Rattle.hexfloat.proofs.Digits.{pos, power-lt}
-use Rattle.hexfloat.proofs.Multiplied.{zero-first, zero-second}
+use Rattle.hexfloat.proofs.Digits.{pos, power-lt, product-below}
+use Rattle.hexfloat.proofs.Multiplied.{places, product-moved, zero-first, zero-second}
 use Rattle.hexfloat.proofs.Normalised.{magnitude-zero}
 use Rattle.hexfloat.proofs.Placed.{parted}
 use Rattle.hexfloat.proofs.Ratio.{cut-is, cut-unique}
@@ -95,21 +95,6 @@ product-word-laws v w mask a b = record {
       ap (mapped (wordsOf Short)) (first-digits (digitsOf v) 6 8 mask (partsOf v a) (partsOf v b))
       ∙ one-word (product (digitsOf v) 14 mask (partsOf v a) (partsOf v b));
 }
-
--- a product of numbers below others
-pub product-below : {a b m n : ℕ} → a < m → b < n → a * b < m * n
-product-below {a} {b} {m} {n} h l = lt-of-le-of-lt (mul-le-mul-right b (le-of-lt h)) (mul-lt-mul-of-pos-left l (omega arith))
-
--- The product of the magnitudes is that of the fractions, moved left by the places of both.
-module _ (d : ℕ) (x y : Parts) where
-  abbrev pub places : ℕ
-  places = x .characteristic + (14 - d) + (y .characteristic + (14 - d))
-
-  pub product-moved : magnitude d x * magnitude d y ≡ x .fraction * y .fraction * 16 ^ places
-  unfolding magnitude
-  product-moved =
-      mul-mul-mul-comm (x .fraction) (16 ^ (x .characteristic + (14 - d))) (y .fraction) (16 ^ (y .characteristic + (14 - d)))
-      ∙ ap (λ (z : ℕ). x .fraction * y .fraction * z) (sym (pow-add 16 (x .characteristic + (14 - d)) (y .characteristic + (14 - d))))
 
 -- A fraction of e digits has room for all digits of a product of two fractions of d.
 module _ (d e : ℕ) (x y : Parts) (twice : 2 * d ≤ e) (fits : e ≤ 14) (hx : x .fraction < 16 ^ d) (hy : y .fraction < 16 ^ d) where

@@ -1,23 +1,23 @@
 -- What leaving the low by low part out of a product would do, over the digits d and the split l.
-use mathlib.Core.Path.{_≡_, refl, sym, ap, ap₂, _∙_, subst, subst₂}
+use mathlib.Core.Path.{_≡_, refl, sym, ap, ap₂, _∙_, subst₂}
 use mathlib.Core.Bool.{true}
 use Prim.Native.Nat.{ℕ, suc, _+_, _-_, _*_, _/_, _%_, _^_, _≤_, _<_}
 use native.Mathlib.Nat.{le-trans, le-of-eq, le-of-lt, lt-of-lt-of-le, lt-of-le-of-lt, le-of-suc-le-suc, not-le-of-lt, add-le-add, mul-le-mul, mul-le-mul-left, mul-le-mul-right, mul-lt-mul-of-pos-right, le-of-mul-le-mul-right, lt-of-mul-lt-mul-right, mul-assoc, mul-comm, mul-right-comm, add-mul, suc-mul, one-mul, div-add-mod', mod-le, mod-lt, le-div-iff-mul-le, pow-suc, mul-pos, sub-le}
 use native.Mathlib.Omega.{arith}
 use lib.Pow.{pow-add}
 use Rattle.hexfloat.specs.declared.word.Parts.{Parts}
-use Rattle.hexfloat.specs.Answer.{Answer, gives}
+use Rattle.hexfloat.specs.Answer.{gives}
 use Rattle.hexfloat.specs.Multiply.{product}
 use Rattle.hexfloat.specs.Normal.{IsCharacteristic, IsFraction}
 use Rattle.hexfloat.specs.Result.{signByAlgebra, resultOf}
 use Rattle.hexfloat.specs.Theorems.{lowPart, withoutLowByLow, shortenedProduct, IsNormalised, AtMostOneUnitLower}
 use Rattle.hexfloat.specs.Word.{magnitude}
 use Rattle.hexfloat.proofs.Answers.{gives-inj, never}
-use Rattle.hexfloat.proofs.Digits.{pos, mono, power-lt}
+use Rattle.hexfloat.proofs.Digits.{pos, mono, power-lt, product-below}
 use Rattle.hexfloat.proofs.Fits.{fraction-most}
 use Rattle.hexfloat.proofs.Keys.{Trichotomy, less, same, more, trichotomy}
+use Rattle.hexfloat.proofs.Multiplied.{places, product-moved}
 use Rattle.hexfloat.proofs.Placed.{parted}
-use Rattle.hexfloat.proofs.Products.{product-below, places, product-moved}
 use Rattle.hexfloat.proofs.Theorems.{result-cases}
 
 -- a ratio with its characteristic and its fraction of d digits

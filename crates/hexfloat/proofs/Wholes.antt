@@ -6,7 +6,7 @@ use native.Mathlib.Omega.{arith}
 use lib.Pow.{pow-add}
 use Rattle.hexfloat.specs.Normal.{digits}
 use Rattle.hexfloat.specs.Operand.{IsPlaced, leadingDigits}
-use Rattle.hexfloat.proofs.Digits.{pos, four-bits, moved-left, same-power}
+use Rattle.hexfloat.proofs.Digits.{pos, four-bits, digits-are, moved-left, same-power}
 use Rattle.hexfloat.proofs.Normalised.{moved-most}
 use Rattle.hexfloat.proofs.Placed.{Bounded, grown, parted}
 use Rattle.hexfloat.proofs.Ratio.{cut-is}
@@ -60,3 +60,9 @@ module _ (d s k i j : ℕ) (least : 16 ^ k ≤ s * 16) (most : s < 16 ^ k) (cut 
       = subst₂ (λ (x y : ℕ). Bounded d x y kept) (parted s c down (c + down) (omega arith)) (sym (same-power up q (64 + k) (c + down) e))
       (grown (16 ^ (c + down)) (pos (c + down)) of-whole) in
       record { characteristic = record { least = r .least; most = r .most }; fraction = record { least = r .cut-least; most = r .cut-most } }
+
+-- the same of a number of at most 16 digits, whose first digits the code finds
+pub leading-placed : (d s c q up down : ℕ) → 0 < s → digits s ≤ 16 → d ≤ 16 → up + q ≡ 64 + digits s + (c + down)
+    → IsPlaced d (s * 16 ^ c) (16 ^ q) up down (leadingDigits d s)
+leading-placed d s c q up down some few fits e =
+    whole-placed d s (digits s) (16 - digits s) (16 - d) (digits-are s .least some) (digits-are s .most) (omega arith) c q up down e

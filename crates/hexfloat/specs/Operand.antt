@@ -1,4 +1,5 @@
 -- What the private functions of the crate hand each other: operands in range, their normalised form (8.3), and the places of a ratio.
+use mathlib.Core.Path.{_≡_}
 use Prim.Native.Nat.{ℕ, _+_, _-_, _*_, _/_, _%_, _^_, _≤_, _<_}
 use mathlib.Core.Bool.{cond}
 use lib.Dec.{ltb, eqb}
@@ -64,7 +65,9 @@ pub record Correcting (q rest b : ℕ) : Type 0 where
   pub fits : q < 16 ^ 8
   pub near : rest < 2 * b
 
--- two fractions of d digits
-pub record Factors (d a b : ℕ) : Type 0 where
-  pub first : a < 16 ^ d
-  pub second : b < 16 ^ d
+-- two operands of d digits that are not zero
+pub record Factors (d : ℕ) (x y : Parts) : Type 0 where
+  pub first : Operand d x
+  pub second : Operand d y
+  pub some-first : x .fraction ≡ 0 → ⊥
+  pub some-second : y .fraction ≡ 0 → ⊥

@@ -1,6 +1,6 @@
 -- `normalise_sum` meets its contract: the intermediate sum is a whole number whose first digits are kept.
 use mathlib.Core.Path.{_≡_, sym, ap, _∙_, subst⁻¹}
-use Prim.Native.Nat.{ℕ, _+_, _*_, _^_, _≤_}
+use Prim.Native.Nat.{ℕ, _+_, _*_, _^_}
 use native.Mathlib.Nat.{pos-of-ne-zero, zero-mul}
 use native.Mathlib.Omega.{arith}
 use borrow.Author.Needs.{needs}
@@ -10,10 +10,10 @@ use Rattle.hexfloat.specs.Answer.{gives, mapped}
 use Rattle.hexfloat.specs.Normal.{digits}
 use Rattle.hexfloat.specs.Operand.{IsPlaced, leadingDigits}
 use Rattle.hexfloat.specs.Word.{digitsOf, wordsOf}
-use Rattle.hexfloat.proofs.Added.{sum-placed}
 use Rattle.hexfloat.proofs.Digits.{pos, digits-le}
 use Rattle.hexfloat.proofs.Fits.{width-fits, no-bits}
 use Rattle.hexfloat.proofs.Results.{of-zero}
+use Rattle.hexfloat.proofs.Wholes.{leading-placed}
 use Rattle.hexfloat.proofs.addition.normalise_sum.Statement.{statement}
 use Rattle.hexfloat.proofs.addition.normalise_sum.Tie as tie
 
@@ -50,7 +50,7 @@ placed c =
     let d : ℕ = digitsOf (w c) in
     let k : ℕ = c .before .before .args .c in
     subst⁻¹ (λ (x : ℕ). IsPlaced d (m c * 16 ^ k) (16 ^ (65 + d)) (k + digits (m c)) (x + 1) (leadingDigits d (m c))) (d-is c)
-    (sum-placed d (m c) k (pos-of-ne-zero (c .before .if1 .left)) (digits-le (m c) 16 (c .before .before .pre .2)) (omega (arith, width-fits (w c))))
+    (leading-placed d (m c) k (65 + d) (k + digits (m c)) (d + 1) (pos-of-ne-zero (c .before .if1 .left)) (digits-le (m c) 16 (c .before .before .pre .2)) (omega (arith, width-fits (w c))) (omega arith))
 
 returns-2 : tie.Need-returns-2
 unfolding resultOfSum

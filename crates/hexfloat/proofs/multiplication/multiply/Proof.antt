@@ -1,20 +1,16 @@
--- `multiply` meets its contract: each way out of the code has its law.
-use mathlib.Core.Path.{_≡_, refl, sym, ap, _∙_}
+-- `multiply` meets its contract: a word's parts are in range, and each way out of the code has its law.
+use mathlib.Core.Path.{_≡_, refl, sym, ap, _∙_, subst}
 use mathlib.Core.Bool.{Bool}
-use Prim.Native.Nat.{ℕ, _+_, _*_, _^_, _<_, _≤_}
 use native.Mathlib.Omega.{arith}
 use borrow.Author.Needs.{needs}
 use Rattle.hexfloat.specs.declared.word.Parts.{Parts}
 use Rattle.hexfloat.specs.declared.word.Width.{Width}
 use Rattle.hexfloat.specs.Answer.{gives, mapped}
 use Rattle.hexfloat.specs.Multiply.{product, productWords}
-use Rattle.hexfloat.specs.Normal.{digits}
-use Rattle.hexfloat.specs.Operand.{Operand, IsPlaced, leadingDigits}
+use Rattle.hexfloat.specs.Operand.{Operand, Factors}
 use Rattle.hexfloat.specs.Word.{digitsOf, wordsOf, shortWords, trueZero}
-use Rattle.hexfloat.proofs.Digits.{pos, digits-le}
-use Rattle.hexfloat.proofs.Fits.{held, width-fits, no-bits}
-use Rattle.hexfloat.proofs.Multiplied.{fractions, factors, normal-product, first-part-normal, product-placed, result-kept, zero-first, zero-second, in-words}
-use Rattle.hexfloat.proofs.Normalised.{Bounds, bounds}
+use Rattle.hexfloat.proofs.Fits.{held, no-bits}
+use Rattle.hexfloat.proofs.Multiplied.{zero-first, zero-second, in-words}
 use Rattle.hexfloat.proofs.multiplication.multiply.Statement.{statement}
 use Rattle.hexfloat.proofs.multiplication.multiply.Tie as tie
 
@@ -41,45 +37,25 @@ module _ (c : tie.After-parts-of2) where
   fits-y : Operand (digitsOf v) y
   fits-y = held v (c .before .before .args .b) (c .parts-of2 .ensures) (omega arith) (omega arith)
 
-  said : mapped (wordsOf w) (product (digitsOf v) (digitsOf w) mask x y) ≡ productWords v w mask (c .before .before .args .a) (c .before .before .args .b)
-  said = in-words v w mask (c .before .before .args .a) (c .before .before .args .b) (c .before .parts-of .ensures) (c .parts-of2 .ensures)
+  -- the product in words, the operands' width being u
+  said : {u : Width} → v ≡ u → mapped (wordsOf w) (product (digitsOf u) (digitsOf w) mask x y) ≡ productWords v w mask (c .before .before .args .a) (c .before .before .args .b)
+  said e =
+      subst (λ (z : Width). mapped (wordsOf w) (product (digitsOf z) (digitsOf w) mask x y) ≡ productWords v w mask (c .before .before .args .a) (c .before .before .args .b)) e
+      (in-words v w mask (c .before .before .args .a) (c .before .before .args .b) (c .before .parts-of .ensures) (c .parts-of2 .ensures))
 
   -- a zero fraction of either
   none : product (digitsOf v) (digitsOf w) mask x y ≡ gives trueZero → gives (shortWords 0) ≡ productWords v w mask (c .before .before .args .a) (c .before .before .args .b)
-  none e = ap gives (sym (no-bits w)) ∙ ap (mapped (wordsOf w)) (sym e) ∙ said
+  none e = ap gives (sym (no-bits w)) ∙ ap (mapped (wordsOf w)) (sym e) ∙ said refl
 
--- where neither is zero, with their normalised forms
-module _ (c : tie.After-normalise2) where
+-- where neither is zero
+module _ (c : tie.Else2) where
   abbrev parts : tie.After-parts-of2
-  parts = c .before .before .before .before .before .before .before
+  parts = c .before .before .before .before
 
-  d-is : c .before .before .digits-of .result ≡ digitsOf (v parts)
-  d-is = c .before .before .digits-of .ensures
-
-  bounds-x : Bounds (digitsOf (v parts)) (x parts) (c .before .normalise .result)
-  bounds-x = bounds (fits-x parts) (c .before .before .before .before .before .if1 .left) (rw d-is at (c .before .normalise .ensures))
-
-  bounds-y : Bounds (digitsOf (v parts)) (y parts) (c .normalise2 .result)
-  bounds-y = bounds (fits-y parts) (c .before .before .before .if2 .left) (rw d-is at (c .normalise2 .ensures))
-
--- and with the product of their fractions
-module _ (c : tie.After-multiply-fractions) where
-  abbrev u : tie.After-normalise2
-  u = c .before
-
-  abbrev place : ℕ
-  place = u .before .normalise .result .place + u .normalise2 .result .place
-
-  abbrev whole : ℕ
-  whole = fractions (digitsOf (v (parts u))) (width-fits (v (parts u)) .1) (bounds-x u) (bounds-y u)
-
-  some : 16 ^ 14 ≤ c .multiply-fractions .result .high
-  some = first-part-normal whole _ _ (c .multiply-fractions .ensures .0) (c .multiply-fractions .ensures .1) (normal-product (digitsOf (v (parts u))) (width-fits (v (parts u)) .1) (bounds-x u) (bounds-y u))
-
-  placed : IsPlaced (digitsOf (w (parts u))) (whole * 16 ^ place) (16 ^ 184) (place + digits (c .multiply-fractions .result .high)) 108 (leadingDigits (digitsOf (w (parts u))) (c .multiply-fractions .result .high))
-  placed =
-      product-placed whole _ _ (c .multiply-fractions .ensures .0) (c .multiply-fractions .ensures .1) (normal-product (digitsOf (v (parts u))) (width-fits (v (parts u)) .1) (bounds-x u) (bounds-y u))
-      (digitsOf (w (parts u))) (width-fits (w (parts u)) .1) (digits-le (c .multiply-fractions .result .high) 16 (omega arith)) place
+  factors : {u : Width} → v parts ≡ u → Factors (digitsOf u) (x parts) (y parts)
+  factors e =
+      subst (λ (z : Width). Factors (digitsOf z) (x parts) (y parts)) e
+      (record { first = fits-x parts; second = fits-y parts; some-first = c .before .before .if1 .left; some-second = c .if2 .left })
 
 parts-of-requires : tie.Need-parts-of-requires
 parts-of-requires c κs = search needs
@@ -93,38 +69,23 @@ returns c = none (c .before .before) (zero-first _ _ _ (x (c .before .before)) _
 returns-2 : tie.Need-returns-2
 returns-2 c = none (c .before .before .before .before) (zero-second _ _ _ _ (y (c .before .before .before .before)) (c .if2 .taken))
 
-digits-of-requires : tie.Need-digits-of-requires
-digits-of-requires c κs = search needs
+enum-told : tie.Need-enum-told
+enum-told c = search needs
 
-normalise-requires : tie.Need-normalise-requires
-normalise-requires c κs = rw (c .digits-of .ensures) (fits-x (c .before .before .before .before .before))
+multiply-short-requires : tie.Need-multiply-short-requires
+multiply-short-requires c κs = factors (c .before .before) (c .enum-told .given .1)
 
-normalise-requires-2 : tie.Need-normalise-requires-2
-normalise-requires-2 c κs = rw (c .before .digits-of .ensures) (fits-y (c .before .before .before .before .before .before))
+enum-told-2 : tie.Need-enum-told-2
+enum-told-2 c = search needs
 
-multiply-fractions-requires : tie.Need-multiply-fractions-requires
-multiply-fractions-requires c κs = factors (digitsOf (v (parts c))) (width-fits (v (parts c)) .1) (bounds-x c) (bounds-y c)
-
-add-sign : tie.Need-add-sign
-add-sign c = omega (arith, fits-x (parts (u (c .before .before))) .sign, fits-y (parts (u (c .before .before))) .sign)
-
-add-normalised-result : tie.Need-add-normalised-result
-add-normalised-result c =
-    let s = u (c .before .before .before .before) in
-    omega (arith, bounds-x s .place, bounds-y s .place)
-
-normalised-result-requires : tie.Need-normalised-result-requires
-normalised-result-requires c κs =
-    let s = c .before .before .before .before in
-    (omega arith, (omega (arith, some s), omega (arith, bounds-x (u s) .place, bounds-y (u s) .place)))
+multiply-long-requires : tie.Need-multiply-long-requires
+multiply-long-requires c κs = factors (c .before .before) (c .enum-told2 .given .1)
 
 returns-3 : tie.Need-returns-3
-returns-3 c =
-    let s = c .before .before .before .before .before in
-    let p = parts (u s) in
-    c .normalised-result .ensures (whole s * 16 ^ place s) (16 ^ 184) (pos 184) (placed s)
-    ∙ ap (mapped (wordsOf (w p))) (result-kept (digitsOf (v p)) (width-fits (v p) .1) (bounds-x (u s)) (bounds-y (u s)) (digitsOf (w p)) (mask p))
-    ∙ said p
+returns-3 c = c .multiply-short .ensures ∙ said (parts (c .before .before .before)) (c .before .enum-told .given .1)
+
+returns-4 : tie.Need-returns-4
+returns-4 c = c .multiply-long .ensures ∙ said (parts (c .before .before .before)) (c .before .enum-told2 .given .1)
 
 pub multiply-spec : {M : Type 1} → statement M
 multiply-spec =
@@ -134,11 +95,9 @@ multiply-spec =
     parts-of-requires-2
     returns
     returns-2
-    digits-of-requires
-    normalise-requires
-    normalise-requires-2
-    multiply-fractions-requires
-    add-sign
-    add-normalised-result
-    normalised-result-requires
-    returns-3)
+    enum-told
+    multiply-short-requires
+    enum-told-2
+    multiply-long-requires
+    returns-3
+    returns-4)
