@@ -1,7 +1,7 @@
 -- The theorems on products of specs/Theorems.antt, over the digits d of the operands and e of the result.
 use mathlib.Core.Path.{_≡_, refl, sym, ap, ap₂, _∙_, subst, subst⁻¹}
 use mathlib.Core.Bool.{Bool, true, false}
-use mathlib.Core.Logic.{inl, inr}
+use mathlib.Core.Logic.{_⊎_, inl, inr}
 use Prim.Native.Nat.{ℕ, suc, _+_, _-_, _*_, _/_, _%_, _^_, _≤_, _<_}
 use native.Mathlib.Nat.{le-trans, le-of-eq, lt-of-lt-of-le, lt-of-le-of-lt, mul-lt-mul-of-pos-right, mul-comm, mul-div-cancel, mul-mod-left, mod-eq-of-lt, add-comm, zero-mul, mul-pos, div-eq-of-lt, div-div-eq-div-mul, mul-div-mul-right}
 use native.Mathlib.Omega.{arith}
@@ -12,9 +12,9 @@ use Rattle.hexfloat.specs.declared.word.Width.the-variants.{Short, Long}
 use Rattle.hexfloat.specs.declared.word.Words.{Words}
 use Rattle.hexfloat.specs.Answer.{Answer, gives, stops, mapped}
 use Rattle.hexfloat.specs.Multiply.{product, productWords}
-use Rattle.hexfloat.specs.Normal.{IsCharacteristic, IsFraction}
+use Rattle.hexfloat.specs.Normal.{IsCharacteristic, IsBelowZero, IsFraction}
 use Rattle.hexfloat.specs.Result.{signByAlgebra, resultOf, underflow}
-use Rattle.hexfloat.specs.Theorems.{ExactResult, ExactProduct, withoutLast, ProductLaws, ProductWordLaws, LosesNothing, ExactOrUnderflow}
+use Rattle.hexfloat.specs.Theorems.{ExactResult, ExactProduct, withoutLast, ProductLaws, ProductWordLaws, IsWhole, LosesNothing}
 use Rattle.hexfloat.specs.Word.{digitsOf, partsOf, wordsOf, shortWords, magnitude, trueZero}
 use Rattle.hexfloat.proofs.Answers.{gives-inj, never}
 use Rattle.hexfloat.proofs.Digits.{pos, power-lt, product-below}
@@ -141,14 +141,18 @@ module _ (d e : ℕ) (x y : Parts) (twice : 2 * d ≤ e) (fits : e ≤ 14) (hx :
         ∙ sym (parted fractions left (c + (14 - e) + 78) p (omega (arith, reach)))
         ∙ sym (product-moved d x y)
 
-  pub loses-nothing : (mask : Bool) (q : Parts) → product d e mask x y ≡ gives q → ExactOrUnderflow d e x y q
+  whole-or-below : (mask : Bool) (q : Parts) → product d e mask x y ≡ gives q → IsWhole d e x y q ⊎ ((k : ℕ) × (0 < k) × IsBelowZero (magnitude d x * magnitude d y) (16 ^ 156) k)
   unfolding product magnitude
-  loses-nothing mask q =
-      result-cases e mask (signByAlgebra x y) (magnitude d x * magnitude d y) (16 ^ 156) (pos 156) (λ r. r ≡ gives q → ExactOrUnderflow d e x y q)
-      (λ z g. inl (given g (record { exact = ap (λ (v : ℕ). v * 16 ^ 78) (magnitude-zero e trueZero refl) ∙ zero-mul (16 ^ 78) ∙ sym z; zeros = mod-eq-of-lt (pos (e - 2 * d)) })))
+  whole-or-below mask q =
+      result-cases e mask (signByAlgebra x y) (magnitude d x * magnitude d y) (16 ^ 156) (pos 156)
+      (λ r. r ≡ gives q → IsWhole d e x y q ⊎ ((k : ℕ) × (0 < k) × IsBelowZero (magnitude d x * magnitude d y) (16 ^ 156) k))
+      (λ z g. inl (given g (record { value = ap (λ (v : ℕ). v * 16 ^ 78) (magnitude-zero e trueZero refl) ∙ zero-mul (16 ^ 78) ∙ sym z; zeros = mod-eq-of-lt (pos (e - 2 * d)) })))
       (λ c r h g. never g)
       (λ k hk r g. inr (k, hk, r))
-      (λ c f r h s g. inl (given g (record { exact = exact c f r s; zeros = zeros c f r s })))
+      (λ c f r h s g. inl (given g (record { value = exact c f r s; zeros = zeros c f r s })))
     where
-      given : {u : Parts} → gives u ≡ gives q → LosesNothing d e x y u → LosesNothing d e x y q
-      given g l = subst (λ (v : Parts). LosesNothing d e x y v) (gives-inj g) l
+      given : {u : Parts} → gives u ≡ gives q → IsWhole d e x y u → IsWhole d e x y q
+      given g l = subst (λ (v : Parts). IsWhole d e x y v) (gives-inj g) l
+
+pub loses-nothing : (d e : ℕ) (mask : Bool) (x y : Parts) → LosesNothing d e mask x y
+loses-nothing d e mask x y = record { given = λ twice fits hx hy. whole-or-below d e x y twice fits hx hy mask }

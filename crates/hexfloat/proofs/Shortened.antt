@@ -10,7 +10,7 @@ use Rattle.hexfloat.specs.Answer.{gives}
 use Rattle.hexfloat.specs.Multiply.{product}
 use Rattle.hexfloat.specs.Normal.{IsCharacteristic, IsFraction}
 use Rattle.hexfloat.specs.Result.{signByAlgebra, resultOf}
-use Rattle.hexfloat.specs.Theorems.{lowPart, withoutLowByLow, shortenedProduct, IsNormalised, AtMostOneUnitLower}
+use Rattle.hexfloat.specs.Theorems.{lowPart, withoutLowByLow, shortenedProduct, IsNormalised, AtMostOneUnitLower, LowByLow}
 use Rattle.hexfloat.specs.Word.{magnitude}
 use Rattle.hexfloat.proofs.Answers.{gives-inj, never}
 use Rattle.hexfloat.proofs.Digits.{pos, mono, power-lt, product-below}
@@ -218,9 +218,12 @@ module _ (d l : ℕ) (x y : Parts) (half : 2 * l < d) (nx : IsNormalised d x) (n
       (λ k hk r g. never g)
       (λ c f r h s g. (c, f, record { characteristic = r; fraction = s }, gives-inj g))
 
-  pub low-by-low : (u v : Parts) → product d d true x y ≡ gives u → shortenedProduct d l true x y ≡ gives v → AtMostOneUnitLower d u v
+  lower : (u v : Parts) → product d d true x y ≡ gives u → shortenedProduct d l true x y ≡ gives v → AtMostOneUnitLower d u v
   unfolding product shortenedProduct
-  low-by-low u v g h =
+  lower u v g h =
       let q = given whole (lt-of-lt-of-le rest-some rest-most) u g in
       let r = given rest rest-some v h in
       subst₂ (AtMostOneUnitLower d) (q .3) (r .3) (compared (q .0) (q .1) (r .0) (r .1) (q .2) (r .2))
+
+pub low-by-low : (d l : ℕ) (x y : Parts) → LowByLow d l x y
+low-by-low d l x y = record { given = lower d l x y }

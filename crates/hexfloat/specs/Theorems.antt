@@ -1,6 +1,6 @@
 -- What is proved of the definitions, in the words of document 01: the exact value decides. The proofs are in proofs/, under the same names.
 use mathlib.Core.Path.{_≡_}
-use mathlib.Core.Bool.{Bool}
+use mathlib.Core.Bool.{Bool, true}
 use mathlib.Core.Logic.{_⊎_}
 use Prim.Native.Nat.{ℕ, suc, _+_, _-_, _*_, _/_, _%_, _^_, _≤_, _<_}
 use Rattle.hexfloat.specs.declared.addition.Sense.{Sense}
@@ -113,14 +113,15 @@ pub record ProductWordLaws (v w : Width) (mask : Bool) (a b : Words) : Type 0 wh
   pub interchanged : productWords v w mask a b ≡ productWords v w mask b a
   pub first-word : productWords v Short mask a b ≡ mapped (λ r. shortWords (r .high)) (productWords v Long mask a b)
 
--- 8.25: a product p of e digits, twice the operands' d or more, loses nothing. It is the exact product, with zeros for the digits that it has more;
--- or the exact product has a characteristic below 0, and it underflows.
-pub record LosesNothing (d e : ℕ) (x y p : Parts) : Type 0 where
-  pub exact : magnitude e p * 16 ^ 78 ≡ magnitude d x * magnitude d y
+-- p has the exact value of the product of x and y, and zeros for the digits that it has more than both
+pub record IsWhole (d e : ℕ) (x y p : Parts) : Type 0 where
+  pub value : magnitude e p * 16 ^ 78 ≡ magnitude d x * magnitude d y
   pub zeros : p .fraction % 16 ^ (e - 2 * d) ≡ 0
 
-abbrev pub ExactOrUnderflow : ℕ → ℕ → Parts → Parts → Parts → Type 0
-ExactOrUnderflow d e x y p = LosesNothing d e x y p ⊎ ((k : ℕ) × (0 < k) × IsBelowZero (magnitude d x * magnitude d y) (16 ^ 156) k)
+-- 8.25: a product of e digits, twice the operands' d or more, loses nothing. What is given is whole, or the exact product has a characteristic below 0.
+pub record LosesNothing (d e : ℕ) (mask : Bool) (x y : Parts) : Type 0 where
+  pub given : 2 * d ≤ e → e ≤ 14 → x .fraction < 16 ^ d → y .fraction < 16 ^ d → (p : Parts) → product d e mask x y ≡ gives p
+      → IsWhole d e x y p ⊎ ((k : ℕ) × (0 < k) × IsBelowZero (magnitude d x * magnitude d y) (16 ^ 156) k)
 
 -- What leaving the low by low part out would do: 8.24 names 'the three most significant' partial sums, and leaves open where a fraction is split. Here
 -- the low part of a number has the last l digits of its fraction.
@@ -142,6 +143,11 @@ pub record IsNormalised (d : ℕ) (p : Parts) : Type 0 where
 pub record AtMostOneUnitLower (d : ℕ) (p q : Parts) : Type 0 where
   pub never-higher : magnitude d q ≤ magnitude d p
   pub one-unit : magnitude d p ≤ magnitude d q + 16 ^ (p .characteristic + (14 - d))
+
+-- where the low parts have fewer than half of the digits, and neither product stops
+pub record LowByLow (d l : ℕ) (x y : Parts) : Type 0 where
+  pub given : 2 * l < d → IsNormalised d x → IsNormalised d y → (p q : Parts) → product d d true x y ≡ gives p → shortenedProduct d l true x y ≡ gives q
+      → AtMostOneUnitLower d p q
 
 -- CVFX: the magnitude is the exact value times 65,536 cut toward zero, and no other number is.
 pub record ExactFixed (p : Parts) : Type 0 where

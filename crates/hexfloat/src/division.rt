@@ -24,8 +24,9 @@ pub fn divide(width: Width, mask: bool, a: Words, b: Words) -> Result
         return Result::Number(Words { high: 0, low: 0 });
     }
     let d = crate::word::digits_of(width);
-    let n = crate::normal::normalise(d, x);
+    // y first: x may just have been written by the order before
     let m = crate::normal::normalise(d, y);
+    let n = crate::normal::normalise(d, x);
     let lead = leads(n.fraction, m.fraction);
     let fraction = leading_digits(width, d - lead, n.fraction, m.fraction);
     let sign = (x.sign + y.sign) % 2;

@@ -55,8 +55,9 @@ fn multiply_long(width: Width, mask: bool, x: Parts, y: Parts) -> Result
     ensures { λ r. ⌜ saysResult r ≡ mapped (wordsOf width) (product 14 (digitsOf width) mask x y) ⌝ }
 {
     let sign = (x.sign + y.sign) % 2;
-    let n = crate::normal::normalise(14, x);
+    // y first: x may just have been written by the order before
     let m = crate::normal::normalise(14, y);
+    let n = crate::normal::normalise(14, x);
     let place = n.place + m.place;
     let p = multiply_fractions(n.fraction, m.fraction);
     crate::result::normalised_result(width, mask, sign, place, LONG_EXCESS, p.high)

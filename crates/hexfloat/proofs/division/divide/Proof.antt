@@ -49,14 +49,14 @@ module _ (c : tie.After-leads) where
   abbrev d-is : c .before .before .before .digits-of .result ≡ digitsOf (w parts)
   d-is = c .before .before .before .digits-of .ensures
 
-  ready : Ready (digitsOf (w parts)) (x parts) (y parts) (c .before .before .normalise .result) (c .before .normalise2 .result) (c .leads .result)
+  ready : Ready (digitsOf (w parts)) (x parts) (y parts) (c .before .normalise2 .result) (c .before .before .normalise .result) (c .leads .result)
   ready = record {
     dividend = fits-x parts;
     divisor = fits-y parts;
     some-dividend = c .before .before .before .before .if2 .left;
     some-divisor = c .before .before .before .before .before .before .if1 .left;
-    normal-dividend = rw d-is at (c .before .before .normalise .ensures);
-    normal-divisor = rw d-is at (c .before .normalise2 .ensures);
+    normal-dividend = rw d-is at (c .before .normalise2 .ensures);
+    normal-divisor = rw d-is at (c .before .before .normalise .ensures);
     leads = c .leads .ensures;
   }
 
@@ -64,11 +64,11 @@ module _ (c : tie.After-leads) where
 placed : (c : tie.After-leading-digits) → IsPlaced (digitsOf (w (parts (c .before))))
     (magnitude (digitsOf (w (parts (c .before)))) (x (parts (c .before))))
     (magnitude (digitsOf (w (parts (c .before)))) (y (parts (c .before))))
-    (c .before .before .before .normalise .result .place + 64 + c .before .leads .result)
-    (c .before .before .normalise2 .result .place)
+    (c .before .before .normalise2 .result .place + 64 + c .before .leads .result)
+    (c .before .before .before .normalise .result .place)
     (c .leading-digits .result)
 placed c =
-    rw (c .leading-digits .ensures ∙ ap (λ (k : ℕ). c .before .before .before .normalise .result .fraction * 16 ^ (k - c .before .leads .result) / c .before .before .normalise2 .result .fraction) (d-is (c .before)))
+    rw (c .leading-digits .ensures ∙ ap (λ (k : ℕ). c .before .before .normalise2 .result .fraction * 16 ^ (k - c .before .leads .result) / c .before .before .before .normalise .result .fraction) (d-is (c .before)))
     (ratio-placed (ready (c .before)))
 
 parts-of-requires : tie.Need-parts-of-requires
@@ -94,10 +94,10 @@ digits-of-requires : tie.Need-digits-of-requires
 digits-of-requires c κs = search needs
 
 normalise-requires : tie.Need-normalise-requires
-normalise-requires c κs = rw (c .digits-of .ensures) (fits-x (c .before .before .before .before .before))
+normalise-requires c κs = rw (c .digits-of .ensures) (fits-y (c .before .before .before .before .before))
 
 normalise-requires-2 : tie.Need-normalise-requires-2
-normalise-requires-2 c κs = rw (c .before .digits-of .ensures) (fits-y (c .before .before .before .before .before .before))
+normalise-requires-2 c κs = rw (c .before .digits-of .ensures) (fits-x (c .before .before .before .before .before .before))
 
 leads-requires : tie.Need-leads-requires
 leads-requires c κs = search needs

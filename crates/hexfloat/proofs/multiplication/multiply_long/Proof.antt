@@ -20,10 +20,10 @@ add-sign : tie.Need-add-sign
 add-sign c = omega (arith, c .before .before .pre .first .sign, c .before .before .pre .second .sign)
 
 normalise-requires : tie.Need-normalise-requires
-normalise-requires c κs = c .before .before .pre .first
+normalise-requires c κs = c .before .before .pre .second
 
 normalise-requires-2 : tie.Need-normalise-requires-2
-normalise-requires-2 c κs = c .before .before .before .pre .second
+normalise-requires-2 c κs = c .before .before .before .pre .first
 
 -- with the normalised forms of both operands
 module _ (c : tie.After-normalise2) where
@@ -40,19 +40,19 @@ module _ (c : tie.After-normalise2) where
   y = start .args .y
 
   abbrev n : Normal
-  n = c .before .normalise .result
+  n = c .normalise2 .result
 
   abbrev m : Normal
-  m = c .normalise2 .result
+  m = c .before .normalise .result
 
   first : Bounds 14 x n
-  first = first-bounds (start .pre) (c .before .normalise .ensures) (c .normalise2 .ensures)
+  first = first-bounds (start .pre) (c .normalise2 .ensures) (c .before .normalise .ensures)
 
   second : Bounds 14 y m
-  second = second-bounds (start .pre) (c .before .normalise .ensures) (c .normalise2 .ensures)
+  second = second-bounds (start .pre) (c .normalise2 .ensures) (c .before .normalise .ensures)
 
   normal : 16 ^ 26 ≤ n .fraction * m .fraction
-  normal = normal-product (start .pre) (c .before .normalise .ensures) (c .normalise2 .ensures)
+  normal = normal-product (start .pre) (c .normalise2 .ensures) (c .before .normalise .ensures)
 
 add-place : tie.Need-add-place
 add-place c = omega (arith, first (c .before .before) .place, second (c .before .before) .place)
@@ -84,7 +84,7 @@ returns : tie.Need-returns
 returns c =
     let s = u (c .before) in
     c .normalised-result .ensures (n s .fraction * m s .fraction * 16 ^ (n s .place + m s .place)) (16 ^ 184) (pos 184) (placed (c .before))
-    ∙ ap (mapped (wordsOf (width s))) (result-kept (start s .pre) (s .before .normalise .ensures) (s .normalise2 .ensures) (digitsOf (width s)) (start s .args .mask))
+    ∙ ap (mapped (wordsOf (width s))) (result-kept (start s .pre) (s .normalise2 .ensures) (s .before .normalise .ensures) (digitsOf (width s)) (start s .args .mask))
 
 pub multiply-long-spec : {M : Type 1} → statement M
 multiply-long-spec =
