@@ -13,7 +13,7 @@ use Rattle.hexfloat.specs.declared.word.Words.{Words}
 use Rattle.hexfloat.specs.Answer.{gives, mapped}
 use Rattle.hexfloat.specs.Multiply.{product, productWords}
 use Rattle.hexfloat.specs.Normal.{digits}
-use Rattle.hexfloat.specs.Operand.{Factors, IsPlaced, leadingDigits, normalised}
+use Rattle.hexfloat.specs.Operand.{Factors, IsPlaced, firstDigits, normalised}
 use Rattle.hexfloat.specs.Result.{resultOf, signByAlgebra}
 use Rattle.hexfloat.specs.Word.{digitsOf, partsOf, wordsOf, trueZero, magnitude}
 use Rattle.hexfloat.proofs.Digits.{pos, mono, product-below, digits-are, digits-le}
@@ -21,7 +21,7 @@ use Rattle.hexfloat.proofs.Normalised.{Bounds, bounds, magnitude-zero}
 use Rattle.hexfloat.proofs.Placed.{same-place}
 use Rattle.hexfloat.proofs.Results.{of-zero}
 use Rattle.hexfloat.proofs.Scaled.{scaled-result}
-use Rattle.hexfloat.proofs.Wholes.{whole-placed, leading-placed}
+use Rattle.hexfloat.proofs.Wholes.{whole-placed, first-digits-placed}
 
 -- two numbers in two parts each, multiplied out
 expanded : (x y z w u : ℕ) → (x * u + y) * (z * u + w) ≡ x * z * (u * u) + (x * w + y * z) * u + y * w
@@ -99,7 +99,7 @@ module _ (p high low : ℕ) (whole : high * 16 ^ 12 + low ≡ p) (rest : low < 1
         back j h = omega arith
 
     -- so cutting the first part is cutting the whole
-    same-cut : p * 16 ^ (16 - digits high) / 16 ^ (28 - e) ≡ leadingDigits e high
+    same-cut : p * 16 ^ (16 - digits high) / 16 ^ (28 - e) ≡ firstDigits e high
     same-cut =
         moved-out p (28 - e) (omega (arith, many))
         ∙ ap (λ (y : ℕ). p / y) (ap (λ (y : ℕ). 16 ^ y) apart ∙ pow-add 16 12 (16 - e - (16 - digits high)))
@@ -110,7 +110,7 @@ module _ (p high low : ℕ) (whole : high * 16 ^ 12 + low ≡ p) (rest : low < 1
         apart : 28 - e - (16 - digits high) ≡ 12 + (16 - e - (16 - digits high))
         apart = omega (arith, many)
 
-    pub product-placed : (place : ℕ) → IsPlaced e (p * 16 ^ place) (16 ^ 184) (place + digits high) 108 (leadingDigits e high)
+    pub product-placed : (place : ℕ) → IsPlaced e (p * 16 ^ place) (16 ^ 184) (place + digits high) 108 (firstDigits e high)
     product-placed place =
         same-place refl same-cut
         (whole-placed e p (digits high + 12) (16 - digits high) (28 - e) above below (omega (arith, few)) place 184 (place + digits high) 108 (omega arith))
@@ -135,12 +135,12 @@ module _ {x y : Parts} (f : Factors 6 x y) where
   short-some = mul-pos (pos-of-ne-zero (f .some-first)) (pos-of-ne-zero (f .some-second))
 
   pub short-placed : (e : ℕ) → e ≤ 14
-      → IsPlaced e (magnitude 6 x * magnitude 6 y) (16 ^ 156) (x .characteristic + y .characteristic + digits (x .fraction * y .fraction)) 76 (leadingDigits e (x .fraction * y .fraction))
+      → IsPlaced e (magnitude 6 x * magnitude 6 y) (16 ^ 156) (x .characteristic + y .characteristic + digits (x .fraction * y .fraction)) 76 (firstDigits e (x .fraction * y .fraction))
   short-placed e fits =
       let p : ℕ = x .fraction * y .fraction in
       let up : ℕ = x .characteristic + y .characteristic + digits p in
-      subst⁻¹ (λ (z : ℕ). IsPlaced e z (16 ^ 156) up 76 (leadingDigits e p)) (product-moved 6 x y)
-      (leading-placed e p (places 6 x y) 156 up 76 short-some (digits-le p 16 (omega (arith, short-most))) (omega arith) (omega arith))
+      subst⁻¹ (λ (z : ℕ). IsPlaced e z (16 ^ 156) up 76 (firstDigits e p)) (product-moved 6 x y)
+      (first-digits-placed e p (places 6 x y) 156 up 76 short-some (digits-le p 16 (omega (arith, short-most))) (omega arith) (omega arith))
 
 -- Two long operands that are not zero, and their normalised forms.
 module _ {x y : Parts} {n m : Normal} (f : Factors 14 x y) (en : n ≡ normalised 14 x) (em : m ≡ normalised 14 y) where

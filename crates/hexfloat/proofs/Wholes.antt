@@ -5,7 +5,7 @@ use native.Mathlib.Nat.{le-trans, le-of-eq, lt-of-lt-of-le, lt-of-le-of-lt, mul-
 use native.Mathlib.Omega.{arith}
 use lib.Pow.{pow-add}
 use Rattle.hexfloat.specs.Normal.{digits}
-use Rattle.hexfloat.specs.Operand.{IsPlaced, leadingDigits}
+use Rattle.hexfloat.specs.Operand.{IsPlaced, firstDigits}
 use Rattle.hexfloat.proofs.Digits.{pos, four-bits, digits-are, moved-left, same-power}
 use Rattle.hexfloat.proofs.Normalised.{moved-most}
 use Rattle.hexfloat.proofs.Placed.{Bounded, grown, parted}
@@ -17,13 +17,13 @@ traded f i j k l e =
     mul-assoc f (16 ^ i) (16 ^ j) ∙ ap (λ (z : ℕ). f * z) (same-power i j k l e) ∙ sym (mul-assoc f (16 ^ k) (16 ^ l))
 
 -- a number of at most 16 digits in a u64, moved left by its leading zero digits and then right to d digits
-pub moved-right : (d k s zeros : ℕ) → k ≡ d → zeros + digits s ≡ 16 → s * 2 ^ (4 * zeros) % 2 ^ 64 / 2 ^ (4 * (16 - k)) ≡ leadingDigits d s
+pub moved-right : (d k s zeros : ℕ) → k ≡ d → zeros + digits s ≡ 16 → s * 2 ^ (4 * zeros) % 2 ^ 64 / 2 ^ (4 * (16 - k)) ≡ firstDigits d s
 moved-right d k s zeros e h =
     let index : zeros ≡ 16 - digits s = omega arith in
     rw (e, index, four-bits (16 - d)) (ap (λ (x : ℕ). x / 16 ^ (16 - d)) (moved-left {w = 2 ^ 64} s (16 - digits s) (moved-most 16 s (omega arith))))
 
-pub leading-most : (d m : ℕ) → digits m ≤ 16 → d ≤ 16 → leadingDigits d m < 16 ^ d
-leading-most d m few fits =
+pub first-digits-most : (d m : ℕ) → digits m ≤ 16 → d ≤ 16 → firstDigits d m < 16 ^ d
+first-digits-most d m few fits =
     div-lt-iff-lt-mul (pos (16 - d)) .1 (lt-of-lt-of-le (moved-most 16 m few) (le-of-eq (ap (λ (x : ℕ). 16 ^ x) whole ∙ pow-add 16 d (16 - d))))
   where
     whole : 16 ≡ d + (16 - d)
@@ -62,7 +62,7 @@ module _ (d s k i j : ℕ) (least : 16 ^ k ≤ s * 16) (most : s < 16 ^ k) (cut 
       record { characteristic = record { least = r .least; most = r .most }; fraction = record { least = r .cut-least; most = r .cut-most } }
 
 -- the same of a number of at most 16 digits, whose first digits the code finds
-pub leading-placed : (d s c q up down : ℕ) → 0 < s → digits s ≤ 16 → d ≤ 16 → up + q ≡ 64 + digits s + (c + down)
-    → IsPlaced d (s * 16 ^ c) (16 ^ q) up down (leadingDigits d s)
-leading-placed d s c q up down some few fits e =
+pub first-digits-placed : (d s c q up down : ℕ) → 0 < s → digits s ≤ 16 → d ≤ 16 → up + q ≡ 64 + digits s + (c + down)
+    → IsPlaced d (s * 16 ^ c) (16 ^ q) up down (firstDigits d s)
+first-digits-placed d s c q up down some few fits e =
     whole-placed d s (digits s) (16 - digits s) (16 - d) (digits-are s .least some) (digits-are s .most) (omega arith) c q up down e

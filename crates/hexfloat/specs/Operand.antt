@@ -32,9 +32,9 @@ pub record IsPlaced (d a b up down f : ℕ) : Type 0 where
   pub characteristic : IsCharacteristic (a * 16 ^ down) b up
   pub fraction : IsFraction d (a * 16 ^ down) b up f
 
--- a number of at most 16 digits moved left to the first of 16 digits, and cut to d
-abbrev pub leadingDigits : ℕ → ℕ → ℕ
-leadingDigits d m = m * 16 ^ (16 - digits m) / 16 ^ (16 - d)
+-- the first d digits of a number of at most 16: it is moved left by its leading zero digits, and cut
+abbrev pub firstDigits : ℕ → ℕ → ℕ
+firstDigits d m = m * 16 ^ (16 - digits m) / 16 ^ (16 - d)
 
 -- two normalised fractions, and how many digits of their quotient are wanted: all that a number has, or one less
 pub record Dividends (w : Width) (n a b : ℕ) : Type 0 where

@@ -6,7 +6,7 @@ ghost use mathlib.Core.Path.{_≡_};
 ghost use Prim.Native.Nat.{ℕ, _+_, _<_, _≤_, _^_};
 ghost use Rattle.hexfloat.specs.Answer.{mapped};
 ghost use Rattle.hexfloat.specs.Normal.{digits};
-ghost use Rattle.hexfloat.specs.Operand.{IsPlaced, leadingDigits};
+ghost use Rattle.hexfloat.specs.Operand.{IsPlaced, firstDigits};
 ghost use Rattle.hexfloat.specs.Result.{saysResult, resultOf};
 ghost use Rattle.hexfloat.specs.Word.{digitsOf, wordsOf};
 
@@ -48,7 +48,7 @@ pub fn limited(width: Width, mask: bool, sign: u32, up: u32, down: u32, fraction
 pub fn normalised_result(width: Width, mask: bool, sign: u32, up: u32, down: u32, m: u64) -> Result
     requires { ⌜ sign ≤ 1 ⌝ }
     requires { ⌜ (0 < m) × (up < 2 ^ 16) ⌝ }
-    ensures { λ r. ⌜ ((a b : ℕ) → 0 < b → IsPlaced (digitsOf width) a b (up + digits m) down (leadingDigits (digitsOf width) m) → saysResult r ≡ mapped (wordsOf width) (resultOf (digitsOf width) mask sign a b)) ⌝ }
+    ensures { λ r. ⌜ ((a b : ℕ) → 0 < b → IsPlaced (digitsOf width) a b (up + digits m) down (firstDigits (digitsOf width) m) → saysResult r ≡ mapped (wordsOf width) (resultOf (digitsOf width) mask sign a b)) ⌝ }
 {
     let d = crate::word::digits_of(width);
     let zeros = u64::leading_zeros(m) / 4;

@@ -8,12 +8,12 @@ use Rattle.hexfloat.specs.declared.word.Width.{Width}
 use Rattle.hexfloat.specs.Add.{resultOfSum}
 use Rattle.hexfloat.specs.Answer.{gives, mapped}
 use Rattle.hexfloat.specs.Normal.{digits}
-use Rattle.hexfloat.specs.Operand.{IsPlaced, leadingDigits}
+use Rattle.hexfloat.specs.Operand.{IsPlaced, firstDigits}
 use Rattle.hexfloat.specs.Word.{digitsOf, wordsOf}
 use Rattle.hexfloat.proofs.Digits.{pos, digits-le}
 use Rattle.hexfloat.proofs.Fits.{width-fits, no-bits}
 use Rattle.hexfloat.proofs.Results.{of-zero}
-use Rattle.hexfloat.proofs.Wholes.{leading-placed}
+use Rattle.hexfloat.proofs.Wholes.{first-digits-placed}
 use Rattle.hexfloat.proofs.addition.normalise_sum.Statement.{statement}
 use Rattle.hexfloat.proofs.addition.normalise_sum.Tie as tie
 
@@ -45,12 +45,12 @@ normalised-result-requires : tie.Need-normalised-result-requires
 normalised-result-requires c κs = (c .before .before .pre .1, (pos-of-ne-zero (c .before .if1 .left), omega (arith, c .before .before .pre .0)))
 
 -- where the intermediate sum stands
-placed : (c : tie.After-digits-of) → IsPlaced (digitsOf (w c)) (m c * 16 ^ c .before .before .args .c) (16 ^ (65 + digitsOf (w c))) (c .before .before .args .c + digits (m c)) (c .digits-of .result + 1) (leadingDigits (digitsOf (w c)) (m c))
+placed : (c : tie.After-digits-of) → IsPlaced (digitsOf (w c)) (m c * 16 ^ c .before .before .args .c) (16 ^ (65 + digitsOf (w c))) (c .before .before .args .c + digits (m c)) (c .digits-of .result + 1) (firstDigits (digitsOf (w c)) (m c))
 placed c =
     let d : ℕ = digitsOf (w c) in
     let k : ℕ = c .before .before .args .c in
-    subst⁻¹ (λ (x : ℕ). IsPlaced d (m c * 16 ^ k) (16 ^ (65 + d)) (k + digits (m c)) (x + 1) (leadingDigits d (m c))) (d-is c)
-    (leading-placed d (m c) k (65 + d) (k + digits (m c)) (d + 1) (pos-of-ne-zero (c .before .if1 .left)) (digits-le (m c) 16 (c .before .before .pre .2)) (omega (arith, width-fits (w c))) (omega arith))
+    subst⁻¹ (λ (x : ℕ). IsPlaced d (m c * 16 ^ k) (16 ^ (65 + d)) (k + digits (m c)) (x + 1) (firstDigits d (m c))) (d-is c)
+    (first-digits-placed d (m c) k (65 + d) (k + digits (m c)) (d + 1) (pos-of-ne-zero (c .before .if1 .left)) (digits-le (m c) 16 (c .before .before .pre .2)) (omega (arith, width-fits (w c))) (omega arith))
 
 returns-2 : tie.Need-returns-2
 unfolding resultOfSum

@@ -7,7 +7,7 @@ use Rattle.hexfloat.specs.declared.word.Parts.{Parts}
 use Rattle.hexfloat.specs.declared.word.Width.{Width}
 use Rattle.hexfloat.specs.Answer.{mapped}
 use Rattle.hexfloat.specs.Normal.{digits}
-use Rattle.hexfloat.specs.Operand.{IsPlaced, leadingDigits}
+use Rattle.hexfloat.specs.Operand.{IsPlaced, firstDigits}
 use Rattle.hexfloat.specs.Word.{digitsOf, wordsOf}
 use Rattle.hexfloat.proofs.Digits.{pos, digits-le}
 use Rattle.hexfloat.proofs.Fits.{width-fits}
@@ -71,7 +71,7 @@ module _ (c : tie.After-multiply-fractions) where
   some : 16 ^ 14 ≤ high
   some = first-part-normal (n u .fraction * m u .fraction) _ _ (c .multiply-fractions .ensures .0) (c .multiply-fractions .ensures .1) (normal u)
 
-  placed : IsPlaced (digitsOf (width u)) (n u .fraction * m u .fraction * 16 ^ (n u .place + m u .place)) (16 ^ 184) (n u .place + m u .place + digits high) 108 (leadingDigits (digitsOf (width u)) high)
+  placed : IsPlaced (digitsOf (width u)) (n u .fraction * m u .fraction * 16 ^ (n u .place + m u .place)) (16 ^ 184) (n u .place + m u .place + digits high) 108 (firstDigits (digitsOf (width u)) high)
   placed =
       product-placed (n u .fraction * m u .fraction) _ _ (c .multiply-fractions .ensures .0) (c .multiply-fractions .ensures .1) (normal u)
       (digitsOf (width u)) (width-fits (width u) .1) (digits-le high 16 (omega arith)) (n u .place + m u .place)

@@ -6,12 +6,12 @@ use borrow.Author.Needs.{needs}
 use lib.Count.{leadingZeros}
 use Rattle.hexfloat.specs.declared.word.Width.{Width}
 use Rattle.hexfloat.specs.Normal.{digits}
-use Rattle.hexfloat.specs.Operand.{leadingDigits}
+use Rattle.hexfloat.specs.Operand.{firstDigits}
 use Rattle.hexfloat.specs.Word.{digitsOf}
 use Rattle.hexfloat.proofs.Digits.{digits-positive, leading-digits}
 use Rattle.hexfloat.proofs.Fits.{width-fits}
 use Rattle.hexfloat.proofs.Placed.{same-place}
-use Rattle.hexfloat.proofs.Wholes.{moved-right, leading-most}
+use Rattle.hexfloat.proofs.Wholes.{moved-right, first-digits-most}
 use Rattle.hexfloat.proofs.result.normalised_result.Statement.{statement}
 use Rattle.hexfloat.proofs.result.normalised_result.Tie as tie
 
@@ -32,7 +32,7 @@ module _ (c : tie.After-digits-of) where
   zeros = leading-digits 16 m (omega arith)
 
   -- the two shifts of the code
-  shifted : m * 2 ^ (4 * (leadingZeros 64 m / 4)) % 2 ^ 64 / 2 ^ (4 * (16 - c .digits-of .result)) ≡ leadingDigits (digitsOf w) m
+  shifted : m * 2 ^ (4 * (leadingZeros 64 m / 4)) % 2 ^ 64 / 2 ^ (4 * (16 - c .digits-of .result)) ≡ firstDigits (digitsOf w) m
   shifted = moved-right (digitsOf w) (c .digits-of .result) m (leadingZeros 64 m / 4) d-is zeros
 
 mul-fraction : tie.Need-mul-fraction
@@ -63,7 +63,7 @@ sub-limited : tie.Need-sub-limited
 sub-limited c = omega (arith, zeros c)
 
 limited-requires : tie.Need-limited-requires
-limited-requires c κs = (c .before .pre .0, rw (shifted c) (leading-most (digitsOf (w c)) (m c) (omega (arith, zeros c)) (omega (arith, width-fits (w c)))))
+limited-requires c κs = (c .before .pre .0, rw (shifted c) (first-digits-most (digitsOf (w c)) (m c) (omega (arith, zeros c)) (omega (arith, width-fits (w c)))))
 
 returns : tie.Need-returns
 returns c = λ a b some r.
