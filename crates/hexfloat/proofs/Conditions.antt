@@ -7,10 +7,13 @@ use lib.Dec.{ltb, leb, eqb}
 use Rattle.hexfloat.specs.declared.addition.Sense.{Sense}
 use Rattle.hexfloat.specs.declared.word.Coded.{Coded}
 use Rattle.hexfloat.specs.declared.word.Parts.{Parts}
+use Rattle.hexfloat.specs.declared.word.Width.{Width}
+use Rattle.hexfloat.specs.declared.word.Width.the-variants.{Short, Long}
+use Rattle.hexfloat.specs.declared.word.Words.{Words}
 use Rattle.hexfloat.specs.Answer.{Answer, gives, stops, mapped}
 use Rattle.hexfloat.specs.Word.{digitsOf, partsOf, wordsOf, shortParts, magnitude}
 use Rattle.hexfloat.specs.Condition.{IsCondition, zero, greater, less, conditionBy, operandCondition, generalCondition}
-use Rattle.hexfloat.specs.Compare.{compared, comparedWords}
+use Rattle.hexfloat.specs.Compare.{compared, comparedAligned, comparedWords}
 use Rattle.hexfloat.specs.Convert.{toFixed, toFloat, fixedMagnitude}
 use Rattle.hexfloat.specs.Result.{resultOf, underflow}
 use Rattle.hexfloat.specs.Divide.{quotient, quotientWords}
@@ -29,12 +32,17 @@ word-given : (b : Bool) (x c : Coded) → IsCondition (x .condition) → cond b 
 word-given true x c h e = let same : x ≡ c = cc in subst (λ (y : Coded). IsCondition (y .condition)) same h
 word-given false x c h e = let z : _≡_ {A = ℕ} 0 1 = cc in let no : ⊥ = omega arith in absurd no
 
+of-compare : (w : Width) (a b : Words) → IsCondition (comparedWords w a b)
+unfolding comparedWords compared comparedAligned
+of-compare Short a b = by-tests _ _
+of-compare Long a b = by-tests _ _
+
 pub conditions-set : ConditionsSet
-unfolding operandCondition generalCondition comparedWords compared toFixed toFloat
+unfolding operandCondition generalCondition toFixed toFloat
 conditions-set = record {
   operand = λ w a. by-tests _ _;
   general = λ w. by-tests _ _;
-  compare = λ w a b. by-tests _ _;
+  compare = of-compare;
   fixed = λ w c e. word-given (ltb (fixedMagnitude (shortParts w)) (2 ^ 31 + shortParts w .sign)) _ c (by-tests _ _) e;
   float = λ w. by-tests _ _;
 }

@@ -1,19 +1,21 @@
 -- The edges hold: each is computed from the definitions.
 use mathlib.Core.Path.{refl}
+use native.Mathlib.Omega.{arith}
+use Rattle.hexfloat.specs.Align.{commonCharacteristic, aligned}
 use Rattle.hexfloat.specs.Normal.{digits, digitsIn, characteristicOf, fractionOf}
 use Rattle.hexfloat.specs.Condition.{conditionBy}
-use Rattle.hexfloat.specs.Compare.{comparedWords, compared, positive, negative}
+use Rattle.hexfloat.specs.Compare.{comparedWords, compared, comparedAligned}
 use Rattle.hexfloat.specs.Convert.{toFixed, toFloat, floatParts, fixedMagnitude}
 use Rattle.hexfloat.specs.Divide.{quotientWords, quotient}
 use Rattle.hexfloat.specs.Result.{resultOf}
 use Rattle.hexfloat.specs.Word.{magnitude}
-use Rattle.hexfloat.specs.Add.{addendOf, input, commonCharacteristic, aligned, signed, intermediateSum, resultOfSum, sum, summed, summedWords}
+use Rattle.hexfloat.specs.Add.{addendOf, input, signed, intermediateSum, resultOfSum, sum, summed, summedWords}
 use Rattle.hexfloat.specs.Multiply.{product, productWords}
 use Rattle.hexfloat.specs.Theorems.{withoutLowByLow, shortenedProduct}
-use Rattle.hexfloat.specs.Edges.{StarredEdges, SumEdges, ProductEdges}
+use Rattle.hexfloat.specs.Edges.{StarredEdges, CompareEdges, WithoutPremise, SumEdges, ProductEdges}
 
 pub starred-edges : StarredEdges
-unfolding toFloat floatParts conditionBy toFixed fixedMagnitude quotientWords quotient resultOf comparedWords compared positive negative magnitude characteristicOf fractionOf digits digitsIn
+unfolding toFloat floatParts conditionBy toFixed fixedMagnitude quotientWords quotient resultOf comparedWords compared comparedAligned commonCharacteristic aligned magnitude characteristicOf fractionOf digits digitsIn
 starred-edges = record {
   cvfl-one = refl;
   cvfl-least = refl;
@@ -27,6 +29,30 @@ starred-edges = record {
   underflow-masked = refl;
   overflow = refl;
   compare-long = refl;
+}
+
+pub compare-edges : CompareEdges
+unfolding comparedWords compared comparedAligned commonCharacteristic aligned magnitude conditionBy
+compare-edges = record {
+  zero-fraction = refl;
+  zero-against-negative = refl;
+  first-dropped = refl;
+  last-kept = refl;
+  no-false-equality = refl;
+  nor-here = refl;
+  short-exact = refl;
+  short-zero = refl;
+}
+
+pub without-premise : WithoutPremise
+unfolding comparedWords compared comparedAligned commonCharacteristic aligned magnitude conditionBy
+without-premise = record {
+  leading-zero = refl;
+  leading-zero-exact = refl;
+  other-normalised = record { least = omega arith; most = omega arith };
+  zero-fraction = refl;
+  zero-fraction-exact = refl;
+  one-normalised = record { least = omega arith; most = omega arith };
 }
 
 pub sum-edges : SumEdges

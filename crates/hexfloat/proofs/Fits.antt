@@ -14,8 +14,8 @@ use Rattle.hexfloat.specs.Word.{digitsOf, partsOf, wordsOf, shortParts, 
 use Rattle.hexfloat.specs.Add.{addendOf}
 use Rattle.hexfloat.specs.Normal.{IsCharacteristic, IsFraction}
 use Rattle.hexfloat.specs.Convert.{wordMagnitude, floatParts}
-use Rattle.hexfloat.specs.Operand.{Operand}
-use Rattle.hexfloat.proofs.Digits.{pos, digits-le}
+use Rattle.hexfloat.specs.Operand.{Operand, Operands, Alignable}
+use Rattle.hexfloat.proofs.Digits.{pos, mono, digits-le}
 use Rattle.hexfloat.proofs.Converted.{is as float-is, characteristic as float-characteristic}
 use Rattle.hexfloat.proofs.Keys.{Trichotomy, less, same, more, trichotomy}
 use Rattle.hexfloat.proofs.Ratio.{fraction-is}
@@ -40,9 +40,25 @@ pub width-fits : (w : Width) → (1 < digitsOf w) × (digitsOf w ≤ 14)
 width-fits Short = (omega arith, omega arith)
 width-fits Long = (omega arith, omega arith)
 
--- the parts of a word are in range, by whatever name
-pub held : {p : Parts} (w : Width) (a : Words) → p ≡ partsOf w a → a .high < 2 ^ 32 → a .low < 2 ^ 32 → Operand (digitsOf w) p
-held w a e h l = subst⁻¹ (Operand (digitsOf w)) e (parts-fit w a h l)
+-- a word of 32 bits each
+pub record Fits (a : Words) : Type 0 where
+  pub high : a .high < 2 ^ 32
+  pub low : a .low < 2 ^ 32
+
+-- the parts of two words are in range, by whatever names
+pub held : {x y : Parts} (w : Width) (a b : Words) → x ≡ partsOf w a → y ≡ partsOf w b → Fits a → Fits b → Operands (digitsOf w) x y
+held w a b ex ey fa fb = record {
+  first = subst⁻¹ (Operand (digitsOf w)) ex (parts-fit w a (fa .high) (fa .low));
+  second = subst⁻¹ (Operand (digitsOf w)) ey (parts-fit w b (fb .high) (fb .low));
+}
+
+-- of operands 14 digits hold every fraction
+pub alignable : (g : ℕ) {d : ℕ} {x y : Parts} → g ≤ 2 → Operands d x y → Alignable g x y
+alignable g h o = record {
+  guards = h;
+  first = lt-of-lt-of-le (o .first .fraction) (mono {j = 14} (o .first .most));
+  second = lt-of-lt-of-le (o .second .fraction) (mono {j = 14} (o .second .most));
+}
 
 -- true zero has no bit in its words
 pub no-bits : (w : Width) → wordsOf w trueZero ≡ shortWords 0

@@ -44,6 +44,15 @@ same-rank x y x′ y′ l e m = go (trichotomy x y)
     go (same h) = rw (ranks-level x y h, ranks-level x′ y′ (e h))
     go (more h) = rw (ranks-above x y h, ranks-above x′ y′ (m h))
 
+-- and numbers that rank alike or are level have it, or that of level numbers
+pub level-or-same : (x y x′ y′ : ℕ) → (x < y → x′ < y′) → (y < x → y′ < x′) → (rankCondition x y ≡ 0) ⊎ (rankCondition x y ≡ rankCondition x′ y′)
+level-or-same x y x′ y′ l m = go (trichotomy x y)
+  where
+    go : Trichotomy x y → (rankCondition x y ≡ 0) ⊎ (rankCondition x y ≡ rankCondition x′ y′)
+    go (less h) = inr (rw (ranks-below x y h, ranks-below x′ y′ (l h)))
+    go (same h) = inl (ranks-level x y h)
+    go (more h) = inr (rw (ranks-above x y h, ranks-above x′ y′ (m h)))
+
 -- the first place decides, then the rest
 lexical : (m p f p′ f′ : ℕ) → f < m → f′ < m → p * m + f < p′ * m + f′ → (p < p′) ⊎ ((p ≡ p′) × (f < f′))
 lexical m p f p′ f′ h h′ l = go (trichotomy p p′)

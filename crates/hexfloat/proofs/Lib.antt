@@ -10,6 +10,7 @@ pub mod Divided
 pub mod Edges
 pub mod Fits
 pub mod Keys
+pub mod LongCompares
 pub mod Multiplied
 pub mod Normalised
 pub mod Placed

@@ -11,11 +11,12 @@ use Rattle.hexfloat.specs.declared.signed.Signed.{Signed}
 use Rattle.hexfloat.specs.declared.word.Parts.{Parts}
 use Rattle.hexfloat.specs.declared.word.Width.{Width}
 use Rattle.hexfloat.specs.declared.word.Words.{Words}
-use Rattle.hexfloat.specs.Add.{addendOf, input, commonCharacteristic, aligned, signed, intermediateSum, resultOfSum, sumOfInputs, sum, summed, summedWords}
+use Rattle.hexfloat.specs.Add.{addendOf, input, signed, intermediateSum, resultOfSum, sumOfInputs, sum, summed, summedWords}
+use Rattle.hexfloat.specs.Align.{commonCharacteristic, aligned}
 use Rattle.hexfloat.specs.Answer.{gives, mapped}
-use Rattle.hexfloat.specs.Compare.{above, below, positive, negative}
+use Rattle.hexfloat.specs.Compare.{above, below}
 use Rattle.hexfloat.specs.Result.{resultOf}
-use Rattle.hexfloat.specs.Theorems.{ExactAlignment, ExactIntermediate, DropsZeros, exactSum, ExactSum, SumLaws, WordLaws}
+use Rattle.hexfloat.specs.Theorems.{ExactAlignment, ExactIntermediate, DropsZeros, positive, negative, exactSum, ExactSum, SumLaws, WordLaws}
 use Rattle.hexfloat.specs.Word.{digitsOf, partsOf, wordsOf, inverted, trueZero, magnitude}
 use Rattle.hexfloat.proofs.Added.{input-zero, input-some}
 use Rattle.hexfloat.proofs.Aligned.{common-left, common-right, common-swapped, aligned-is, aligned-unique, aligned-kept}
@@ -64,7 +65,7 @@ exact-inputs d x y =
     negative-kept p = input-keeps (negative d) p (λ e. negative-zero d trueZero refl ∙ sym (negative-zero d p e))
 
 -- Where aligning drops nothing but zeros, the intermediate sum is the exact one in units of its last digit.
-module _ (d : ℕ) (x y : Parts) (z : DropsZeros x y) where
+module _ (d : ℕ) (x y : Parts) (z : DropsZeros 1 x y) where
   abbrev c : ℕ
   c = commonCharacteristic x y
 

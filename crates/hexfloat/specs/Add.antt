@@ -1,5 +1,5 @@
 -- Sums and differences (8.9, 8.10, 8.26, 8.27), over the digits d: two inputs, aligned; their intermediate sum; its result.
-use Prim.Native.Nat.{ℕ, suc, _+_, _-_, _*_, _/_, _^_, _≤_, _<_}
+use Prim.Native.Nat.{ℕ, _+_, _-_, _*_, _^_}
 use mathlib.Core.Bool.{Bool, cond}
 use lib.Dec.{ltb, eqb}
 use Rattle.hexfloat.specs.declared.addition.Sense.{Sense}
@@ -7,28 +7,15 @@ use Rattle.hexfloat.specs.declared.signed.Signed.{Signed}
 use Rattle.hexfloat.specs.declared.word.Parts.{Parts}
 use Rattle.hexfloat.specs.declared.word.Width.{Width}
 use Rattle.hexfloat.specs.declared.word.Words.{Words}
+use Rattle.hexfloat.specs.Align.{commonCharacteristic, aligned}
 use Rattle.hexfloat.specs.Answer.{Answer, mapped}
 use Rattle.hexfloat.specs.Compare.{above, below}
 use Rattle.hexfloat.specs.Result.{resultOf}
-use Rattle.hexfloat.specs.Word.{digitsOf, partsOf, wordsOf, inverted, trueZero, magnitude}
+use Rattle.hexfloat.specs.Word.{digitsOf, partsOf, wordsOf, inverted, trueZero}
 
 -- 8.3: an input with a zero fraction is treated as a true zero, whatever its sign and characteristic
 unfoldable pub input : Parts → Parts
 input p = cond (eqb (p .fraction) 0) trueZero p
-
--- 8.9: the characteristics are compared, and the larger one is aligned to; the operands are not normalised before
-unfoldable pub commonCharacteristic : Parts → Parts → ℕ
-commonCharacteristic x y = cond (ltb (x .characteristic) (y .characteristic)) (y .characteristic) (x .characteristic)
-
--- 8.9: the fraction with g guard digits behind it, moved right by one digit for each that c is larger than its characteristic. What falls past the last
--- guard digit is dropped.
-unfoldable pub aligned : ℕ → ℕ → Parts → ℕ
-aligned g c p = p .fraction * 16 ^ g / 16 ^ (c - p .characteristic)
-
--- f ≤ v < f + 1, where v is the exact magnitude of a number of d digits in units of the last of d + g digits at characteristic c, multiplied out
-pub record IsAligned (d g c : ℕ) (p : Parts) (f : ℕ) : Type 0 where
-  pub least : f * 16 ^ (c + (14 - d)) ≤ magnitude d p * 16 ^ g
-  pub most : magnitude d p * 16 ^ g < suc f * 16 ^ (c + (14 - d))
 
 -- 8.9: what is p above zero and n below it: the sign by the rules of algebra, zero being positive, and the distance of p and n
 unfoldable pub signed : ℕ → ℕ → Signed

@@ -1,16 +1,16 @@
--- Edges as statements about the definitions that the contracts cite: the starred ones of document 01, 'Edges', and those of sums and products.
+-- Edges as statements about the definitions that the contracts cite: the starred ones of document 01, 'Edges', and those of compares, sums and products.
 use mathlib.Core.Path.{_≡_}
 use mathlib.Core.Bool.{true, false}
 use Rattle.hexfloat.specs.declared.addition.Sense.the-variants.{Plus, Minus}
 use Rattle.hexfloat.specs.declared.word.Width.the-variants.{Short, Long}
 use Rattle.hexfloat.specs.Answer.{gives, stops}
 use Rattle.hexfloat.specs.Word.{shortWords, longParts}
-use Rattle.hexfloat.specs.Compare.{comparedWords}
+use Rattle.hexfloat.specs.Compare.{compared, comparedWords}
 use Rattle.hexfloat.specs.Convert.{toFixed, toFloat}
 use Rattle.hexfloat.specs.Divide.{quotientWords}
 use Rattle.hexfloat.specs.Add.{summedWords}
 use Rattle.hexfloat.specs.Multiply.{productWords}
-use Rattle.hexfloat.specs.Theorems.{shortenedProduct}
+use Rattle.hexfloat.specs.Theorems.{IsNormalised, shortenedProduct}
 
 pub record StarredEdges : Type 0 where
   pub cvfl-one : toFloat 0x00010000 ≡ record { word = 0x41100000; condition = 1 }
@@ -25,6 +25,28 @@ pub record StarredEdges : Type 0 where
   pub underflow-masked : quotientWords Short false (shortWords 0x00100000) (shortWords 0x41200000) ≡ gives (shortWords 0)
   pub overflow : quotientWords Short true (shortWords 0x7FFFFFFF) (shortWords 0x40800000) ≡ stops 9
   pub compare-long : comparedWords Long (record { high = 0x423FFFFF; low = 0x00001234 }) (record { high = 0x423FFFFF; low = 0x00801234 }) ≡ 3
+
+-- Compares: long ones by the first 64 bits of aligned fractions, as they are, and without the false equalities of 8.11's note, whose other two examples
+-- stand here; short ones by exact order (document 02, Job 4).
+pub record CompareEdges : Type 0 where
+  pub zero-fraction : comparedWords Long (record { high = 0x7F000000; low = 0 }) (record { high = 0x41100000; low = 0 }) ≡ 0
+  pub zero-against-negative : comparedWords Long (record { high = 0x7F000000; low = 0 }) (record { high = 0xC1100000; low = 0 }) ≡ 0
+  pub first-dropped : comparedWords Long (record { high = 0x43000000; low = 0x00000001 }) (record { high = 0x40000000; low = 0x0000100F }) ≡ 0
+  pub last-kept : comparedWords Long (record { high = 0x43000000; low = 0x00000001 }) (record { high = 0x40000000; low = 0x000010F0 }) ≡ 3
+  pub no-false-equality : comparedWords Long (record { high = 0xBEFFFFFF; low = 0xFB076890 }) (record { high = 0xBF100000; low = 0x00307689 }) ≡ 1
+  pub nor-here : comparedWords Long (record { high = 0x40100000; low = 0x00001234 }) (record { high = 0x3FFFFFFF; low = 0xF8012340 }) ≡ 1
+  pub short-exact : comparedWords Short (shortWords 0x42000001) (shortWords 0x4000010F) ≡ 3
+  pub short-zero : comparedWords Short (shortWords 0x7F000000) (shortWords 0x41100000) ≡ 3
+
+-- Why theorem `long-compare` asks for operands that are true zero or have a first digit that is not zero: with one operand that is neither, by a leading
+-- zero digit or by a characteristic of a zero fraction, the rules differ.
+pub record WithoutPremise : Type 0 where
+  pub leading-zero : comparedWords Long (record { high = 0x42000000; low = 0x00000001 }) (record { high = 0x35100000; low = 0x00000001 }) ≡ 0
+  pub leading-zero-exact : compared 14 (longParts (record { high = 0x42000000; low = 0x00000001 })) (longParts (record { high = 0x35100000; low = 0x00000001 })) ≡ 3
+  pub other-normalised : IsNormalised 14 (longParts (record { high = 0x35100000; low = 0x00000001 }))
+  pub zero-fraction : comparedWords Long (record { high = 0x7F000000; low = 0 }) (record { high = 0x41100000; low = 0 }) ≡ 0
+  pub zero-fraction-exact : compared 14 (longParts (record { high = 0x7F000000; low = 0 })) (longParts (record { high = 0x41100000; low = 0 })) ≡ 3
+  pub one-normalised : IsNormalised 14 (longParts (record { high = 0x41100000; low = 0 }))
 
 -- Sums at the edges of the guard digit, of the common characteristic, of zero operands and of the limits (8.3, 8.9, 8.10, 8.26, 8.27).
 pub record SumEdges : Type 0 where

@@ -2,6 +2,7 @@ pub mod Answer
 pub mod Word
 pub mod Normal
 pub mod Condition
+pub mod Align
 pub mod Compare
 pub mod Convert
 pub mod Result

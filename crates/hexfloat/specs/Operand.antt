@@ -1,12 +1,15 @@
--- What the private functions of the crate hand each other: operands in range, their normalised form (8.3), and the places of a ratio.
+-- What the private functions of the crate hand each other: operands in range, their normalised form (8.3), two fractions aligned (8.9), and the places
+-- of a ratio.
 use mathlib.Core.Path.{_≡_}
 use Prim.Native.Nat.{ℕ, _+_, _-_, _*_, _/_, _%_, _^_, _≤_, _<_}
 use mathlib.Core.Bool.{cond}
 use lib.Dec.{ltb, eqb}
+use Rattle.hexfloat.specs.declared.alignment.Prealigned.{Prealigned}
 use Rattle.hexfloat.specs.declared.division.Turn.{Turn}
 use Rattle.hexfloat.specs.declared.normal.Normal.{Normal}
 use Rattle.hexfloat.specs.declared.word.Parts.{Parts}
 use Rattle.hexfloat.specs.declared.word.Width.{Width}
+use Rattle.hexfloat.specs.Align.{commonCharacteristic, aligned}
 use Rattle.hexfloat.specs.Normal.{digits, IsCharacteristic, IsFraction}
 use Rattle.hexfloat.specs.Word.{digitsOf}
 
@@ -18,6 +21,11 @@ pub record Operand (d : ℕ) (p : Parts) : Type 0 where
   pub characteristic : p .characteristic ≤ 127
   pub fraction : p .fraction < 16 ^ d
 
+-- those of two words
+pub record Operands (d : ℕ) (x y : Parts) : Type 0 where
+  pub first : Operand d x
+  pub second : Operand d y
+
 -- 8.3: a fraction of d digits moved left by its leading zero digits, and the characteristic lowered by as many. The characteristic stands 14 higher,
 -- so that it is never below 0.
 unfoldable pub normalised : ℕ → Parts → Normal
@@ -26,6 +34,18 @@ normalised d p = record { place = p .characteristic + 14 + digits (p .fraction) 
 -- a number that ranks as the magnitude of d digits does: the place of the first digit above the normalised fraction
 unfoldable pub magnitudeKey : ℕ → Parts → ℕ
 magnitudeKey d p = cond (eqb (p .fraction) 0) 0 (normalised d p .place * 2 ^ 56 + normalised d p .fraction)
+
+-- two numbers whose fractions, with g guard digits behind them, have at most 16 digits
+pub record Alignable (g : ℕ) (x y : Parts) : Type 0 where
+  pub guards : g ≤ 2
+  pub first : x .fraction < 16 ^ 14
+  pub second : y .fraction < 16 ^ 14
+
+-- both fractions, aligned to the common characteristic
+unfoldable pub prealigned : ℕ → Parts → Parts → Prealigned
+prealigned g x y =
+    let c = commonCharacteristic x y in
+    record { characteristic = c; first = aligned g c x; second = aligned g c y }
 
 -- a / b has the characteristic up - down, also one below 0, and the fraction f of d digits: so a * 16^down over b has the characteristic up
 pub record IsPlaced (d a b up down f : ℕ) : Type 0 where

@@ -11,15 +11,16 @@ use Rattle.hexfloat.specs.declared.word.Width.{Width}
 use Rattle.hexfloat.specs.declared.word.Width.the-variants.{Short, Long}
 use Rattle.hexfloat.specs.declared.word.Words.{Words}
 use Rattle.hexfloat.specs.Answer.{Answer, gives, stops, mapped}
-use Rattle.hexfloat.specs.Word.{trueZero, magnitude, shortWords}
+use Rattle.hexfloat.specs.Word.{trueZero, magnitude, shortWords, longParts}
+use Rattle.hexfloat.specs.Align.{commonCharacteristic, aligned, IsAligned}
 use Rattle.hexfloat.specs.Condition.{IsCondition, operandCondition, generalCondition}
-use Rattle.hexfloat.specs.Compare.{positive, negative, comparedWords}
+use Rattle.hexfloat.specs.Compare.{above, below, compared, comparedAligned, comparedWords}
 use Rattle.hexfloat.specs.Normal.{IsCharacteristic, IsFraction, IsBelowZero}
 use Rattle.hexfloat.specs.Convert.{fixedMagnitude, wordMagnitude, floatParts, toFixed, toFloat}
 use Rattle.hexfloat.specs.Result.{signByAlgebra, resultOf, underflow}
 use Rattle.hexfloat.specs.Divide.{quotient, quotientWords}
 use Rattle.hexfloat.specs.Multiply.{product, productWords}
-use Rattle.hexfloat.specs.Add.{input, commonCharacteristic, aligned, IsAligned, signed, intermediateSum, sum, summed, summedWords}
+use Rattle.hexfloat.specs.Add.{input, signed, intermediateSum, sum, summed, summedWords}
 
 -- For whole numbers a and b above 0 there is one characteristic of a / b, 0 or more or below 0, and to it one fraction of d digits.
 pub record OneNumber (d a b : ℕ) : Type 0 where
@@ -57,10 +58,17 @@ pub record ExactIntermediate (d : ℕ) (mask : Bool) (c : ℕ) (s : Signed) : Ty
   pub result : ExactResult d mask (s .sign) (s .magnitude * 16 ^ c) (16 ^ (65 + d))
   pub number : 0 < s .magnitude → OneNumber d (s .magnitude * 16 ^ c) (16 ^ (65 + d))
 
--- the digits that fall past the guard digit where x and y are aligned are zeros
-pub record DropsZeros (x y : Parts) : Type 0 where
-  pub first : x .fraction * 16 % 16 ^ (commonCharacteristic x y - x .characteristic) ≡ 0
-  pub second : y .fraction * 16 % 16 ^ (commonCharacteristic x y - y .characteristic) ≡ 0
+-- the digits that fall past the g guard digits where x and y are aligned are zeros
+pub record DropsZeros (g : ℕ) (x y : Parts) : Type 0 where
+  pub first : x .fraction * 16 ^ g % 16 ^ (commonCharacteristic x y - x .characteristic) ≡ 0
+  pub second : y .fraction * 16 ^ g % 16 ^ (commonCharacteristic x y - y .characteristic) ≡ 0
+
+-- of the value of a number of d digits the part above zero, and the part below it
+unfoldable pub positive : ℕ → Parts → ℕ
+positive d p = above (p .sign) (magnitude d p)
+
+unfoldable pub negative : ℕ → Parts → ℕ
+negative d p = below (p .sign) (magnitude d p)
 
 -- the exact sum of the values of two numbers of d digits
 abbrev pub exactSum : ℕ → Parts → Parts → Signed
@@ -74,7 +82,7 @@ pub record ExactSum (d : ℕ) (mask : Bool) (x y : Parts) : Type 0 where
   pub result : ExactIntermediate d mask (commonCharacteristic (input x) (input y)) (intermediateSum (input x) (input y))
   pub intermediate : sum d mask x y
       ≡ resultOf d mask (intermediateSum (input x) (input y) .sign) (intermediateSum (input x) (input y) .magnitude * 16 ^ commonCharacteristic (input x) (input y)) (16 ^ (65 + d))
-  pub exact : d ≤ 14 → DropsZeros (input x) (input y) → sum d mask x y ≡ resultOf d mask (exactSum d x y .sign) (exactSum d x y .magnitude) (16 ^ 78)
+  pub exact : d ≤ 14 → DropsZeros 1 (input x) (input y) → sum d mask x y ≡ resultOf d mask (exactSum d x y .sign) (exactSum d x y .magnitude) (16 ^ 78)
 
 -- 8.9: the operands may be interchanged. 8.26, 8.27: a number less itself is true zero, unnormalised too. 8.3: an operand with a zero fraction may be
 -- replaced by true zero.
@@ -148,6 +156,25 @@ pub record AtMostOneUnitLower (d : ℕ) (p q : Parts) : Type 0 where
 pub record LowByLow (d l : ℕ) (x y : Parts) : Type 0 where
   pub given : 2 * l < d → IsNormalised d x → IsNormalised d y → (p q : Parts) → product d d true x y ≡ gives p → shortenedProduct d l true x y ≡ gives q
       → AtMostOneUnitLower d p q
+
+-- 8.0, 8.3: a normalised number is true zero, or its first digit is not zero
+abbrev pub ZeroOrNormalised : ℕ → Parts → Type 0
+ZeroOrNormalised d p = (p ≡ trueZero) ⊎ IsNormalised d p
+
+-- 8.11, note: two numbers of d digits by their aligned fractions, each of which is the exact magnitude cut to d + g digits. They are found equal, or they
+-- stand as by exact order: never the other way round. By exact order they stand where aligning drops nothing but zeros, and where both are normalised.
+pub record AlignedOrder (d g : ℕ) (x y : Parts) : Type 0 where
+  pub first : ExactAlignment d g (commonCharacteristic x y) x
+  pub second : ExactAlignment d g (commonCharacteristic x y) y
+  pub equal-or-exact : (comparedAligned g x y ≡ 0) ⊎ (comparedAligned g x y ≡ compared d x y)
+  pub nothing-dropped : DropsZeros g x y → comparedAligned g x y ≡ compared d x y
+  pub normalised : ZeroOrNormalised d x → ZeroOrNormalised d y → comparedAligned g x y ≡ compared d x y
+
+-- Document 02, Job 4: for two long operands, each true zero or with a first digit that is not zero, the old rule and the new one agree.
+pub record LongCompare (a b : Words) : Type 0 where
+  pub rule : comparedWords Long a b ≡ comparedAligned 2 (longParts a) (longParts b)
+  pub order : AlignedOrder 14 2 (longParts a) (longParts b)
+  pub agree : ZeroOrNormalised 14 (longParts a) → ZeroOrNormalised 14 (longParts b) → comparedWords Long a b ≡ compared 14 (longParts a) (longParts b)
 
 -- CVFX: the magnitude is the exact value times 65,536 cut toward zero, and no other number is.
 pub record ExactFixed (p : Parts) : Type 0 where

@@ -10,9 +10,9 @@ use crate::word::Width;
 use crate::word::Words;
 ghost use mathlib.Core.Path.{_≡_};
 ghost use Prim.Native.Nat.{_<_, _≤_, _^_};
-ghost use Rattle.hexfloat.specs.Add.{addendOf, input, commonCharacteristic, aligned, resultOfSum, sum, summedWords};
+ghost use Rattle.hexfloat.specs.Add.{addendOf, input, resultOfSum, sum, summedWords};
 ghost use Rattle.hexfloat.specs.Answer.{mapped};
-ghost use Rattle.hexfloat.specs.Operand.{Operand};
+ghost use Rattle.hexfloat.specs.Operand.{Operands};
 ghost use Rattle.hexfloat.specs.Result.{saysResult};
 ghost use Rattle.hexfloat.specs.Word.{digitsOf, wordsOf, inverted};
 
@@ -53,15 +53,14 @@ fn invert(p: Parts) -> Parts
 }
 
 fn add_parts(width: Width, mask: bool, a: Parts, b: Parts) -> Result
-    requires { ⌜ Operand (digitsOf width) a ⌝ }
-    requires { ⌜ Operand (digitsOf width) b ⌝ }
+    requires { ⌜ Operands (digitsOf width) a b ⌝ }
     ensures { λ r. ⌜ saysResult r ≡ mapped (wordsOf width) (sum (digitsOf width) mask a b) ⌝ }
 {
     let x = as_input(a);
     let y = as_input(b);
-    let c = common_characteristic(x, y);
-    let s = crate::signed::signed_sum(x.sign, align(c, x), y.sign, align(c, y));
-    normalise_sum(width, mask, c, s)
+    let p = crate::alignment::prealign(GUARD_DIGITS, x, y);
+    let s = crate::signed::signed_sum(x.sign, p.first, y.sign, p.second);
+    normalise_sum(width, mask, p.characteristic, s)
 }
 
 // A zero fraction counts as true zero.
@@ -76,29 +75,6 @@ fn as_input(p: Parts) -> Parts
         };
     }
     p
-}
-
-fn common_characteristic(x: Parts, y: Parts) -> u32
-    ensures { λ r. ⌜ r ≡ commonCharacteristic x y ⌝ }
-{
-    if x.characteristic < y.characteristic {
-        y.characteristic
-    } else {
-        x.characteristic
-    }
-}
-
-// The fraction with its guard digit, moved right to the characteristic c. What is moved by 16 digits
-// or more is gone.
-fn align(c: u32, p: Parts) -> u64
-    requires { ⌜ (p .characteristic ≤ c) × (p .fraction < 16 ^ 14) ⌝ }
-    ensures { λ r. ⌜ r ≡ aligned 1 c p ⌝ }
-{
-    let shift = c - p.characteristic;
-    if 15 < shift {
-        return 0;
-    }
-    (p.fraction << (4 * GUARD_DIGITS)) >> (4 * shift)
 }
 
 // An intermediate sum at the characteristic c, with at most one digit of carry.

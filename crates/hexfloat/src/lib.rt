@@ -4,6 +4,7 @@
 // modules offer each other alone, may have one. What each means is a definition of specs/, which
 // speaks of exact values as whole numbers.
 mod addition;
+mod alignment;
 mod comparison;
 mod condition_code;
 mod convert;

@@ -6,7 +6,7 @@ use borrow.Author.Needs.{needs}
 use Rattle.hexfloat.specs.declared.addition.Sense.{Sense}
 use Rattle.hexfloat.specs.declared.word.Parts.{Parts}
 use Rattle.hexfloat.specs.Add.{addendOf, summed, summedWords}
-use Rattle.hexfloat.specs.Operand.{Operand}
+use Rattle.hexfloat.specs.Operand.{Operand, Operands}
 use Rattle.hexfloat.specs.Word.{digitsOf}
 use Rattle.hexfloat.proofs.Fits.{held, addend-fits}
 use Rattle.hexfloat.proofs.addition.sum.Statement.{statement}
@@ -21,20 +21,18 @@ parts-of-requires-2 c κs = search needs
 addend-requires : tie.Need-addend-requires
 addend-requires c κs = search needs
 
--- with the parts of both operands
-module _ (c : tie.After-parts-of2) where
-  fits-x : Operand (digitsOf (c .before .before .args .width)) (c .before .parts-of .result)
-  fits-x = held (c .before .before .args .width) (c .before .before .args .a) (c .before .parts-of .ensures) (omega arith) (omega arith)
-
-  fits-y : Operand (digitsOf (c .before .before .args .width)) (c .parts-of2 .result)
-  fits-y = held (c .before .before .args .width) (c .before .before .args .b) (c .parts-of2 .ensures) (omega arith) (omega arith)
+-- the parts of both operands are in range
+fits : (c : tie.After-parts-of2) → Operands (digitsOf (c .before .before .args .width)) (c .before .parts-of .result) (c .parts-of2 .result)
+fits c =
+    let a = c .before .before .args in
+    held (a .width) (a .a) (a .b) (c .before .parts-of .ensures) (c .parts-of2 .ensures) (record { high = omega arith; low = omega arith }) (record { high = omega arith; low = omega arith })
 
 -- an addend is in range where its operand is
 addend-held : (d : ℕ) (s : Sense) (p q : Parts) → q ≡ addendOf s p → Operand d p → Operand d q
 addend-held d s p q e o = subst⁻¹ (Operand d) e (addend-fits s o)
 
 add-parts-requires : tie.Need-add-parts-requires
-add-parts-requires c κs = search (fits-x (c .before), fits-y (c .before), c .addend .ensures, addend-held)
+add-parts-requires c κs = search (fits (c .before), c .addend .ensures, addend-held)
 
 returns : tie.Need-returns
 unfolding summedWords summed

@@ -10,7 +10,7 @@ use Rattle.hexfloat.specs.declared.word.Width.{Width}
 use Rattle.hexfloat.specs.Answer.{gives, mapped}
 use Rattle.hexfloat.specs.Word.{digitsOf, wordsOf, magnitude}
 use Rattle.hexfloat.specs.Divide.{quotient, quotientWords}
-use Rattle.hexfloat.specs.Operand.{Operand, IsPlaced}
+use Rattle.hexfloat.specs.Operand.{Operands, IsPlaced}
 use Rattle.hexfloat.proofs.Divided.{Ready, dividend-bounds, divisor-bounds, lead-few, ratio-placed, in-words}
 use Rattle.hexfloat.proofs.Fits.{held, width-fits, no-bits, fraction-most}
 use Rattle.hexfloat.proofs.Normalised.{magnitude-positive, magnitude-zero}
@@ -32,11 +32,10 @@ module _ (c : tie.After-parts-of2) where
   abbrev y : Parts
   y = c .parts-of2 .result
 
-  fits-x : Operand (digitsOf w) x
-  fits-x = held w (c .before .before .args .a) (c .before .parts-of .ensures) (omega arith) (omega arith)
-
-  fits-y : Operand (digitsOf w) y
-  fits-y = held w (c .before .before .args .b) (c .parts-of2 .ensures) (omega arith) (omega arith)
+  fits : Operands (digitsOf w) x y
+  fits =
+      let a = c .before .before .args in
+      held w (a .a) (a .b) (c .before .parts-of .ensures) (c .parts-of2 .ensures) (record { high = omega arith; low = omega arith }) (record { high = omega arith; low = omega arith })
 
   said : mapped (wordsOf w) (quotient (digitsOf w) mask x y) ≡ quotientWords w mask (c .before .before .args .a) (c .before .before .args .b)
   said = in-words w mask (c .before .before .args .a) (c .before .before .args .b) (c .before .parts-of .ensures) (c .parts-of2 .ensures)
@@ -51,8 +50,8 @@ module _ (c : tie.After-leads) where
 
   ready : Ready (digitsOf (w parts)) (x parts) (y parts) (c .before .normalise2 .result) (c .before .before .normalise .result) (c .leads .result)
   ready = record {
-    dividend = fits-x parts;
-    divisor = fits-y parts;
+    dividend = fits parts .first;
+    divisor = fits parts .second;
     some-dividend = c .before .before .before .before .if2 .left;
     some-divisor = c .before .before .before .before .before .before .if1 .left;
     normal-dividend = rw d-is at (c .before .normalise2 .ensures);
@@ -87,17 +86,17 @@ returns-2 c =
     let s = c .before .before .before .before in
     ap gives (sym (no-bits (w s)))
     ∙ ap (mapped (wordsOf (w s)))
-    (sym (by-some _ (mask s) (x s) (y s) (magnitude-positive (fits-y s) (pos-of-ne-zero (c .before .before .if1 .left))) ∙ of-zero _ _ _ _ _ (magnitude-zero _ (x s) (c .if2 .taken))))
+    (sym (by-some _ (mask s) (x s) (y s) (magnitude-positive (fits s .second) (pos-of-ne-zero (c .before .before .if1 .left))) ∙ of-zero _ _ _ _ _ (magnitude-zero _ (x s) (c .if2 .taken))))
     ∙ said s
 
 digits-of-requires : tie.Need-digits-of-requires
 digits-of-requires c κs = search needs
 
 normalise-requires : tie.Need-normalise-requires
-normalise-requires c κs = rw (c .digits-of .ensures) (fits-y (c .before .before .before .before .before))
+normalise-requires c κs = rw (c .digits-of .ensures) (fits (c .before .before .before .before .before) .second)
 
 normalise-requires-2 : tie.Need-normalise-requires-2
-normalise-requires-2 c κs = rw (c .before .digits-of .ensures) (fits-x (c .before .before .before .before .before .before))
+normalise-requires-2 c κs = rw (c .before .digits-of .ensures) (fits (c .before .before .before .before .before .before) .first)
 
 leads-requires : tie.Need-leads-requires
 leads-requires c κs = search needs
@@ -116,7 +115,7 @@ leading-digits-requires c κs =
     }
 
 add-sign : tie.Need-add-sign
-add-sign c = omega (arith, fits-x (parts (c .before .before .before)) .sign, fits-y (parts (c .before .before .before)) .sign)
+add-sign c = omega (arith, fits (parts (c .before .before .before)) .first .sign, fits (parts (c .before .before .before)) .second .sign)
 
 add-limited : tie.Need-add-limited
 add-limited c = omega (arith, dividend-bounds (ready (c .before .before .before .before)) .place)

@@ -7,7 +7,7 @@ use Rattle.hexfloat.specs.declared.word.Parts.{Parts}
 use Rattle.hexfloat.specs.declared.word.Width.{Width}
 use Rattle.hexfloat.specs.Answer.{gives, mapped}
 use Rattle.hexfloat.specs.Multiply.{product, productWords}
-use Rattle.hexfloat.specs.Operand.{Operand, Factors}
+use Rattle.hexfloat.specs.Operand.{Operands, Factors}
 use Rattle.hexfloat.specs.Word.{digitsOf, wordsOf, shortWords, trueZero}
 use Rattle.hexfloat.proofs.Fits.{held, no-bits}
 use Rattle.hexfloat.proofs.Multiplied.{zero-first, zero-second, in-words}
@@ -31,11 +31,10 @@ module _ (c : tie.After-parts-of2) where
   abbrev y : Parts
   y = c .parts-of2 .result
 
-  fits-x : Operand (digitsOf v) x
-  fits-x = held v (c .before .before .args .a) (c .before .parts-of .ensures) (omega arith) (omega arith)
-
-  fits-y : Operand (digitsOf v) y
-  fits-y = held v (c .before .before .args .b) (c .parts-of2 .ensures) (omega arith) (omega arith)
+  fits : Operands (digitsOf v) x y
+  fits =
+      let a = c .before .before .args in
+      held v (a .a) (a .b) (c .before .parts-of .ensures) (c .parts-of2 .ensures) (record { high = omega arith; low = omega arith }) (record { high = omega arith; low = omega arith })
 
   -- the product in words, the operands' width being u
   said : {u : Width} → v ≡ u → mapped (wordsOf w) (product (digitsOf u) (digitsOf w) mask x y) ≡ productWords v w mask (c .before .before .args .a) (c .before .before .args .b)
@@ -55,7 +54,7 @@ module _ (c : tie.Else2) where
   factors : {u : Width} → v parts ≡ u → Factors (digitsOf u) (x parts) (y parts)
   factors e =
       subst (λ (z : Width). Factors (digitsOf z) (x parts) (y parts)) e
-      (record { first = fits-x parts; second = fits-y parts; some-first = c .before .before .if1 .left; some-second = c .if2 .left })
+      (record { first = fits parts .first; second = fits parts .second; some-first = c .before .before .if1 .left; some-second = c .if2 .left })
 
 parts-of-requires : tie.Need-parts-of-requires
 parts-of-requires c κs = search needs

@@ -1,26 +1,27 @@
--- `align` meets its contract: the guard digit fits a u64, and a fraction moved by 16 digits or more is gone.
+-- `align` meets its contract: the guard digits fit a u64, and a fraction moved by 16 digits or more is gone.
 use mathlib.Core.Path.{ap, _∙_, sym}
 use Prim.Native.Nat.{ℕ, _-_, _*_, _/_, _^_, _<_}
 use native.Mathlib.Nat.{lt-of-lt-of-le}
 use native.Mathlib.Omega.{arith}
 use borrow.Author.Needs.{needs}
-use Rattle.hexfloat.proofs.Aligned.{aligned-gone}
+use Rattle.hexfloat.proofs.Aligned.{guarded-most, aligned-gone}
 use Rattle.hexfloat.proofs.Digits.{mono, four-bits, moved-left}
-use Rattle.hexfloat.proofs.addition.align.Statement.{statement}
-use Rattle.hexfloat.proofs.addition.align.Tie as tie
-use Rattle.hexfloat.specs.Add.{aligned}
+use Rattle.hexfloat.proofs.alignment.align.Statement.{statement}
+use Rattle.hexfloat.proofs.alignment.align.Tie as tie
+use Rattle.hexfloat.specs.Align.{aligned}
 
 sub-shift : tie.Need-sub-shift
 sub-shift c = search needs
+
+-- with its guard digits a fraction has at most 16
+sixteen : (s : tie.Start) → s .args .p .fraction * 16 ^ s .args .guards < 16 ^ 16
+sixteen s = lt-of-lt-of-le (guarded-most (s .args .guards) 14 (s .pre .2)) (mono {j = 16} (omega (arith, s .pre .0)))
 
 returns : tie.Need-returns
 returns c =
     let s = c .before .before in
     let p = s .args .p in
-    sym (aligned-gone 1 (s .args .c) p (lt-of-lt-of-le (guarded (s .pre .1)) (mono {i = 15} (omega (arith, c .if1 .taken)))))
-  where
-    guarded : {f : ℕ} → f < 16 ^ 14 → f * 16 ^ 1 < 16 ^ 15
-    guarded h = omega arith
+    sym (aligned-gone (s .args .guards) (s .args .c) p (lt-of-lt-of-le (sixteen s) (mono {i = 16} (omega (arith, c .if1 .taken)))))
 
 mul-result : tie.Need-mul-result
 mul-result c = search needs
@@ -46,8 +47,8 @@ returns-2 c =
     let s = c .before .before .before in
     let p = s .args .p in
     let k : ℕ = s .args .c - p .characteristic in
-    ap (λ (x : ℕ). x / 2 ^ (4 * k)) (moved-left {w = 2 ^ 64} (p .fraction) 1 (omega (arith, s .pre .1)))
-    ∙ ap (λ (x : ℕ). p .fraction * 16 ^ 1 / x) (four-bits k)
+    ap (λ (x : ℕ). x / 2 ^ (4 * k)) (moved-left {w = 2 ^ 64} (p .fraction) (s .args .guards) (sixteen s))
+    ∙ ap (λ (x : ℕ). p .fraction * 16 ^ s .args .guards / x) (four-bits k)
 
 pub align-spec : {M : Type 1} → statement M
 align-spec =

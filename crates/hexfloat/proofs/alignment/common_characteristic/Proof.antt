@@ -2,8 +2,8 @@
 use mathlib.Core.Path.{sym}
 use native.Mathlib.Omega.{arith}
 use Rattle.hexfloat.proofs.Aligned.{common-second, common-first}
-use Rattle.hexfloat.proofs.addition.common_characteristic.Statement.{statement}
-use Rattle.hexfloat.proofs.addition.common_characteristic.Tie as tie
+use Rattle.hexfloat.proofs.alignment.common_characteristic.Statement.{statement}
+use Rattle.hexfloat.proofs.alignment.common_characteristic.Tie as tie
 
 returns : tie.Need-returns
 returns c = sym (common-second (c .before .before .before .args .x) (c .before .before .before .args .y) (omega (arith, c .if1 .taken)))
