@@ -37,16 +37,21 @@ impl Random {
     }
 
     /// A long number of either sign near another: the same, one bit of its fraction changed, its characteristic some digits
-    /// higher, or its fraction moved right by as many.
+    /// higher, or its fraction moved right by as many; or one of two kinds that differ only in digits that a long compare
+    /// drops.
     pub fn near(&mut self, w: u64) -> u64 {
         let (sign, digits) = (self.below(2) << 63, self.below(17) >> self.below(2));
-        let higher = w.wrapping_add(digits << 56) & 0x7f << 56;
+        let higher = |digits: u64| w.wrapping_add(digits << 56) & 0x7f << 56;
         let fraction = w & !(0xff << 56);
-        sign ^ match self.below(4) {
+        // one distance for all numbers near w, so that the two kinds meet
+        let apart = 3 + w % 8;
+        sign ^ match self.below(8) {
             0 => w,
             1 => w ^ 1 << self.below(56),
-            2 => higher | fraction,
-            _ => higher | fraction >> (4 * digits).min(63),
+            2 => higher(digits) | fraction,
+            3 => higher(digits) | fraction >> (4 * digits).min(63),
+            4 | 5 => higher(apart) | fraction >> (4 * apart),
+            _ => w >> (4 * apart) << (4 * apart) | self.next() & ((1 << (4 * (apart - 2))) - 1),
         }
     }
 

@@ -1,4 +1,5 @@
 //! Document 01 again, written from the papers in plain Rust: nothing here is shared with the proved code.
+use std::cmp::Ordering;
 
 /// The state of the desk.
 #[derive(Clone, Copy, PartialEq, Eq, Debug, Default)]
@@ -65,9 +66,9 @@ fn normal(n: Number, d: u32) -> Number {
     }
 }
 
-/// The condition code of a compare by exact value.
+/// The condition code of a short compare: by exact value.
 #[inline]
-fn compare(a: Number, b: Number, d: u32) -> u8 {
+fn compare_short(a: Number, b: Number) -> u8 {
     let less = |x: bool| if x { 3 } else { 1 };
     match (a.fraction == 0, b.fraction == 0) {
         (true, true) => return 0,
@@ -78,12 +79,44 @@ fn compare(a: Number, b: Number, d: u32) -> u8 {
     if a.negative != b.negative {
         return less(a.negative);
     }
-    let (x, y) = (normal(a, d), normal(b, d));
+    let (x, y) = (normal(a, 6), normal(b, 6));
     let (x, y) = ((x.characteristic, x.fraction), (y.characteristic, y.fraction));
     if x == y {
         0
     } else {
         less((x < y) != a.negative)
+    }
+}
+
+/// The fraction with zeros for guard digits at the right, moved right until its characteristic is c. What falls past the
+/// guard digits is dropped.
+#[inline]
+fn moved(n: Number, c: i32, guards: u32) -> u64 {
+    let places = c - n.characteristic;
+    if places < 16 {
+        (n.fraction << (4 * guards)) >> (4 * places)
+    } else {
+        0
+    }
+}
+
+/// The condition code of a long compare, by the note of 8.11: of the smaller characteristic's fraction, moved right as it is,
+/// and of the other the first 64 bits are compared, with their signs.
+#[inline]
+fn compare_long(a: Number, b: Number) -> u8 {
+    let c = a.characteristic.max(b.characteristic);
+    let value = |n: Number| {
+        let bits = moved(n, c, 2) as i128;
+        if n.negative {
+            -bits
+        } else {
+            bits
+        }
+    };
+    match value(a).cmp(&value(b)) {
+        Ordering::Equal => 0,
+        Ordering::Greater => 1,
+        Ordering::Less => 3,
     }
 }
 
@@ -129,12 +162,10 @@ fn operand(n: Number) -> Number {
     }
 }
 
-/// The fraction with its sign and one guard digit at the right, moved right until its characteristic is c. What falls past
-/// the guard digit is dropped.
+/// The fraction with its sign and one guard digit, moved right until its characteristic is c.
 #[inline]
 fn aligned(n: Number, c: i32) -> i64 {
-    let places = c - n.characteristic;
-    let fraction = if places < 16 { (n.fraction << 4) >> (4 * places) } else { 0 };
+    let fraction = moved(n, c, 1);
     if n.negative {
         -(fraction as i64)
     } else {
@@ -329,10 +360,10 @@ fn effect(s: &State, cells: [u16; 4], memory: &[u16]) -> Result<Effect, u8> {
             let w = if w & 0xff_ffff == 0 { 0 } else { w ^ 0x8000_0000 };
             next(Change::Float(r1, w), sign_code(short(w)))
         }
-        5 | 6 => next(Change::Nothing, compare(short(s.float[r1]), short(second_short()), 6)),
+        5 | 6 => next(Change::Nothing, compare_short(short(s.float[r1]), short(second_short()))),
         7 | 8 => {
             let ((a, b), (c, d)) = (pair(r1), second_long());
-            next(Change::Nothing, compare(long(a, b), long(c, d), 14))
+            next(Change::Nothing, compare_long(long(a, b), long(c, d)))
         }
         9 => {
             let (w, cc) = to_fixed(s.float[r2])?;

@@ -18,17 +18,32 @@ fn sign_code(neg: bool, f: u64) -> u8 {
         1
     }
 }
+/// A number that ranks as the magnitude of a short word does.
 #[inline(always)]
-fn key(c: u32, f: u64, d: u32) -> u64 {
-    if f == 0 {
+fn key(w: u32) -> u64 {
+    if fr(w) == 0 {
         return 0;
     }
-    let (z, f) = norm(f, d);
-    ((c + 14 - z) as u64) << 56 | f
+    let (z, f) = norm(fr(w), 6);
+    ((ch(w) + 6 - z) as u64) << 24 | f
 }
 #[inline(always)]
-fn compare(na: bool, ca: u32, fa: u64, nb: bool, cb: u32, fb: u64, d: u32) -> u8 {
-    let (x, y) = (key(ca, fa, d), key(cb, fb, d));
+fn compare_short(a: u32, b: u32) -> u8 {
+    ordered(a >> 31 == 1, key(a), b >> 31 == 1, key(b))
+}
+/// The first words a and b give the signs and the characteristics.
+#[inline(always)]
+fn compare_long(a: u32, fa: u64, b: u32, fb: u64) -> u8 {
+    let (ca, cb) = (ch(a), ch(b));
+    let c = ca.max(cb);
+    // 64 bits each; what is moved past them is lost
+    let x = (fa << 8).checked_shr(4 * (c - ca)).unwrap_or(0);
+    let y = (fb << 8).checked_shr(4 * (c - cb)).unwrap_or(0);
+    ordered(a >> 31 == 1, x, b >> 31 == 1, y)
+}
+/// A magnitude x and its sign against y.
+#[inline(always)]
+fn ordered(na: bool, x: u64, nb: bool, y: u64) -> u8 {
     let order = match (na && x > 0, nb && y > 0) {
         (false, false) => x.cmp(&y),
         (true, true) => y.cmp(&x),
@@ -267,21 +282,12 @@ pub fn run(st: &mut State, b: &mut Buffers, limit: u32) -> (u32, u8) {
             }
             5 | 6 => {
                 let y = if code == 5 { s.float[j] } else { word(memory, a) };
-                let c = compare(fa >> 31 == 1, ch(fa), fr(fa), y >> 31 == 1, ch(y), fr(y), 6);
-                m.nothing(c, mask, next);
+                m.nothing(compare_short(fa, y), mask, next);
             }
             7 | 8 => {
                 let (h, l) =
                     if code == 7 { (s.float[j], s.float[(j + 1) & 7]) } else { (word(memory, a), word(memory, a + 2)) };
-                let c = compare(
-                    fa >> 31 == 1,
-                    ch(fa),
-                    fr(fa) << 32 | fb as u64,
-                    h >> 31 == 1,
-                    ch(h),
-                    fr(h) << 32 | l as u64,
-                    14,
-                );
+                let c = compare_long(fa, fr(fa) << 32 | fb as u64, h, fr(h) << 32 | l as u64);
                 m.nothing(c, mask, next);
             }
             9 => {
