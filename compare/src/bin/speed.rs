@@ -251,7 +251,9 @@ fn main() {
     let mut near_one = floats(r, 0x80ff_ffff);
     (near_one.float[6], near_one.float[7]) = (0x4110_0003, 0x40ff_fffb);
     let unnormalised = vec![0x4201, 0, 0, 0x1234, 0x4200, 0xffff, 0xffff, 0x4321];
-    let compares: Vec<[u16; 4]> = (0..12).map(|k| [5 + k % 2 * 2, k % 8, (k + 3) % 8, 0]).collect();
+    // long operands of several characteristics, so that one of two is moved
+    let short_compares: Vec<[u16; 4]> = (0..12).map(|k| [5, k % 8, (k + 3) % 8, 0]).collect();
+    let long_compares: Vec<[u16; 4]> = (0..12).map(|k| [7, k % 8, (k + 3) % 8, 0]).collect();
     let moves: Vec<[u16; 4]> =
         (0..12).map(|k| [[2, 15, 3, 16, 17, 18][k as usize % 6], k % 6, 0, k * 4]).collect();
     // what an add puts on is a little more than what a subtract takes off, so that the sums walk slowly, some through zero
@@ -267,7 +269,7 @@ fn main() {
         run("(a) a mixed deck with loops", &mixed, floats(r, 0x80ff_ffff), words(r, 0xff_ffff)),
         run("(b) short divides", &shorts, near_one, vec![0; 64]),
         run("(c) long divides, unnormalised", &longs, floats(r, 0x800f_ffff), unnormalised.clone()),
-        run("(d) compares", &compares, floats(r, 0x80ff_ffff), vec![0; 64]),
+        run("(d) short compares", &short_compares, floats(r, 0x80ff_ffff), vec![0; 64]),
         run("(e) loads and stores", &moves, floats(r, 0x80ff_ffff), words(r, 0xff_ffff)),
         stepping("(f) single steps of the mixed deck", &mixed, floats(r, 0x80ff_ffff), words(r, 0xff_ffff)),
         reading(r),
@@ -275,6 +277,7 @@ fn main() {
         run("(i) long sums, unnormalised", &long_sums, floats(r, 0x800f_ffff), addends),
         run("(j) short products", &short_products, near_one, vec![0; 64]),
         run("(k) long products, unnormalised", &long_products, floats(r, 0x800f_ffff), unnormalised),
+        run("(l) long compares, unnormalised", &long_compares, floats(r, 0x870f_ffff), vec![0; 64]),
     ];
     println!("{:<36} {:>8} {:>8} {:>8} {:>9} {:>9}", "", "proved", "plain", "tuned", "to plain", "to tuned");
     for r in &rows {

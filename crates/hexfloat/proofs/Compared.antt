@@ -1,14 +1,16 @@
 -- How signed numbers rank: by their magnitudes where they have one sign, else by what both magnitudes have together. So numbers whose magnitudes rank
 -- alike rank alike, and the operands' keys give exact order.
-use mathlib.Core.Path.{_≡_, sym, ap₂, _∙_, subst₂}
+use mathlib.Core.Path.{_≡_, sym, ap, ap₂, _∙_, subst₂}
 use mathlib.Core.Logic.{⊎-elim}
 use Prim.Native.Nat.{ℕ, _+_, _<_}
 use native.Mathlib.Nat.{add-comm, add-zero, zero-add, ne-of-gt, eq-zero-or-pos}
 use native.Mathlib.Omega.{arith}
 use borrow.Author.Tests.{eq-eqb, ne-eqb}
 use Rattle.hexfloat.specs.declared.word.Parts.{Parts}
-use Rattle.hexfloat.specs.Word.{magnitude}
-use Rattle.hexfloat.specs.Compare.{rankCondition, signedRank, compared}
+use Rattle.hexfloat.specs.declared.word.Width.{Width}
+use Rattle.hexfloat.specs.declared.word.Words.{Words}
+use Rattle.hexfloat.specs.Word.{partsOf, magnitude}
+use Rattle.hexfloat.specs.Compare.{rankCondition, signedRank, compared, comparedBy, comparedWords}
 use Rattle.hexfloat.specs.Operand.{Operand, magnitudeKey}
 use Rattle.hexfloat.proofs.Keys.{same-rank, key-less, key-same, zero-key, some-key}
 
@@ -76,3 +78,8 @@ keys-rank {d} {x} {y} ox oy =
       some = λ h. ⊎-elim (λ e. omega (arith, some-key oy (λ z. omega arith))) (λ p. omega (arith, some-key ox (ne-of-gt p))) (eq-zero-or-pos (magnitudeKey d x));
     })
     (x .sign) (y .sign)
+
+-- the condition of two words, whose width is v and whose parts have any names
+pub in-words : {v w : Width} (a b : Words) {x y : Parts} → w ≡ v → x ≡ partsOf w a → y ≡ partsOf w b → comparedBy v x y ≡ comparedWords w a b
+unfolding comparedWords
+in-words {v} {w} a b e ex ey = ap₂ (comparedBy v) ex ey ∙ ap (λ (z : Width). comparedBy z (partsOf w a) (partsOf w b)) (sym e)

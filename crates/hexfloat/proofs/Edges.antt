@@ -38,8 +38,8 @@ compare-edges = record {
   zero-against-negative = refl;
   first-dropped = refl;
   last-kept = refl;
-  no-false-equality = refl;
-  nor-here = refl;
+  second-example = refl;
+  third-example = refl;
   short-exact = refl;
   short-zero = refl;
 }
@@ -47,12 +47,8 @@ compare-edges = record {
 pub without-premise : WithoutPremise
 unfolding comparedWords compared comparedAligned commonCharacteristic aligned magnitude conditionBy
 without-premise = record {
-  leading-zero = refl;
-  leading-zero-exact = refl;
-  other-normalised = record { least = omega arith; most = omega arith };
-  zero-fraction = refl;
-  zero-fraction-exact = refl;
-  one-normalised = record { least = omega arith; most = omega arith };
+  leading-zero = record { aligned = refl; exact = refl; normalised = record { least = omega arith; most = omega arith } };
+  zero-fraction = record { aligned = refl; exact = refl; normalised = record { least = omega arith; most = omega arith } };
 }
 
 pub sum-edges : SumEdges

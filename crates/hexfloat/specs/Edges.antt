@@ -3,8 +3,9 @@ use mathlib.Core.Path.{_≡_}
 use mathlib.Core.Bool.{true, false}
 use Rattle.hexfloat.specs.declared.addition.Sense.the-variants.{Plus, Minus}
 use Rattle.hexfloat.specs.declared.word.Width.the-variants.{Short, Long}
+use Rattle.hexfloat.specs.declared.word.Words.{Words}
 use Rattle.hexfloat.specs.Answer.{gives, stops}
-use Rattle.hexfloat.specs.Word.{shortWords, longParts}
+use Rattle.hexfloat.specs.Word.{shortWords, longWords, longParts}
 use Rattle.hexfloat.specs.Compare.{compared, comparedWords}
 use Rattle.hexfloat.specs.Convert.{toFixed, toFloat}
 use Rattle.hexfloat.specs.Divide.{quotientWords}
@@ -24,29 +25,31 @@ pub record StarredEdges : Type 0 where
   pub underflow : quotientWords Short true (shortWords 0x00100000) (shortWords 0x41200000) ≡ stops 10
   pub underflow-masked : quotientWords Short false (shortWords 0x00100000) (shortWords 0x41200000) ≡ gives (shortWords 0)
   pub overflow : quotientWords Short true (shortWords 0x7FFFFFFF) (shortWords 0x40800000) ≡ stops 9
-  pub compare-long : comparedWords Long (record { high = 0x423FFFFF; low = 0x00001234 }) (record { high = 0x423FFFFF; low = 0x00801234 }) ≡ 3
+  pub compare-long : comparedWords Long (longWords 0x423FFFFF 0x00001234) (longWords 0x423FFFFF 0x00801234) ≡ 3
 
--- Compares: long ones by the first 64 bits of aligned fractions, as they are, and without the false equalities of 8.11's note, whose other two examples
--- stand here; short ones by exact order (document 02, Job 4).
+-- Compares: long ones by the first 64 bits of their aligned fractions, and without the false equalities of 8.11's note, whose first example is starred;
+-- short ones by exact order (8.11, 8.12; document 02, Job 4).
 pub record CompareEdges : Type 0 where
-  pub zero-fraction : comparedWords Long (record { high = 0x7F000000; low = 0 }) (record { high = 0x41100000; low = 0 }) ≡ 0
-  pub zero-against-negative : comparedWords Long (record { high = 0x7F000000; low = 0 }) (record { high = 0xC1100000; low = 0 }) ≡ 0
-  pub first-dropped : comparedWords Long (record { high = 0x43000000; low = 0x00000001 }) (record { high = 0x40000000; low = 0x0000100F }) ≡ 0
-  pub last-kept : comparedWords Long (record { high = 0x43000000; low = 0x00000001 }) (record { high = 0x40000000; low = 0x000010F0 }) ≡ 3
-  pub no-false-equality : comparedWords Long (record { high = 0xBEFFFFFF; low = 0xFB076890 }) (record { high = 0xBF100000; low = 0x00307689 }) ≡ 1
-  pub nor-here : comparedWords Long (record { high = 0x40100000; low = 0x00001234 }) (record { high = 0x3FFFFFFF; low = 0xF8012340 }) ≡ 1
+  pub zero-fraction : comparedWords Long (longWords 0x7F000000 0) (longWords 0x41100000 0) ≡ 0
+  pub zero-against-negative : comparedWords Long (longWords 0x7F000000 0) (longWords 0xC1100000 0) ≡ 0
+  pub first-dropped : comparedWords Long (longWords 0x43000000 0x00000001) (longWords 0x40000000 0x0000100F) ≡ 0
+  pub last-kept : comparedWords Long (longWords 0x43000000 0x00000001) (longWords 0x40000000 0x000010F0) ≡ 3
+  pub second-example : comparedWords Long (longWords 0xBEFFFFFF 0xFB076890) (longWords 0xBF100000 0x00307689) ≡ 1
+  pub third-example : comparedWords Long (longWords 0x40100000 0x00001234) (longWords 0x3FFFFFFF 0xF8012340) ≡ 1
   pub short-exact : comparedWords Short (shortWords 0x42000001) (shortWords 0x4000010F) ≡ 3
   pub short-zero : comparedWords Short (shortWords 0x7F000000) (shortWords 0x41100000) ≡ 3
 
--- Why theorem `long-compare` asks for operands that are true zero or have a first digit that is not zero: with one operand that is neither, by a leading
--- zero digit or by a characteristic of a zero fraction, the rules differ.
+-- long operands that are equal after alignment and not by exact order, the second of which is normalised
+pub record RulesDiffer (a b : Words) : Type 0 where
+  pub aligned : comparedWords Long a b ≡ 0
+  pub exact : compared 14 (longParts a) (longParts b) ≡ 3
+  pub normalised : IsNormalised 14 (longParts b)
+
+-- Why theorem `long-compare` wants both operands to be true zero or to have a first digit that is not zero: a leading zero digit, and a zero fraction
+-- with a characteristic.
 pub record WithoutPremise : Type 0 where
-  pub leading-zero : comparedWords Long (record { high = 0x42000000; low = 0x00000001 }) (record { high = 0x35100000; low = 0x00000001 }) ≡ 0
-  pub leading-zero-exact : compared 14 (longParts (record { high = 0x42000000; low = 0x00000001 })) (longParts (record { high = 0x35100000; low = 0x00000001 })) ≡ 3
-  pub other-normalised : IsNormalised 14 (longParts (record { high = 0x35100000; low = 0x00000001 }))
-  pub zero-fraction : comparedWords Long (record { high = 0x7F000000; low = 0 }) (record { high = 0x41100000; low = 0 }) ≡ 0
-  pub zero-fraction-exact : compared 14 (longParts (record { high = 0x7F000000; low = 0 })) (longParts (record { high = 0x41100000; low = 0 })) ≡ 3
-  pub one-normalised : IsNormalised 14 (longParts (record { high = 0x41100000; low = 0 }))
+  pub leading-zero : RulesDiffer (longWords 0x42000000 0x00000001) (longWords 0x35100000 0x00000001)
+  pub zero-fraction : RulesDiffer (longWords 0x7F000000 0) (longWords 0x41100000 0)
 
 -- Sums at the edges of the guard digit, of the common characteristic, of zero operands and of the limits (8.3, 8.9, 8.10, 8.26, 8.27).
 pub record SumEdges : Type 0 where
@@ -64,11 +67,11 @@ pub record SumEdges : Type 0 where
 -- Products in a pair and in one register, at the limits, of zero and unnormalised operands, and what a product without its low by low part would be
 -- (8.24, 8.25).
 pub record ProductEdges : Type 0 where
-  pub in-a-pair : productWords Short Long true (shortWords 0x41123456) (shortWords 0x41654321) ≡ gives (record { high = 0x417336BF; low = 0x94116000 })
+  pub in-a-pair : productWords Short Long true (shortWords 0x41123456) (shortWords 0x41654321) ≡ gives (longWords 0x417336BF 0x94116000)
   pub in-one-register : productWords Short Short true (shortWords 0x41123456) (shortWords 0x41654321) ≡ gives (shortWords 0x417336BF)
-  pub largest-square : productWords Long Long true (record { high = 0x41FFFFFF; low = 0xFFFFFFFF }) (record { high = 0x41FFFFFF; low = 0xFFFFFFFF }) ≡ gives (record { high = 0x42FFFFFF; low = 0xFFFFFFFE })
-  pub shortened-square : shortenedProduct 14 6 true (longParts (record { high = 0x41FFFFFF; low = 0xFFFFFFFF })) (longParts (record { high = 0x41FFFFFF; low = 0xFFFFFFFF }))
-      ≡ gives (longParts (record { high = 0x42FFFFFF; low = 0xFFFFFFFD }))
+  pub largest-square : productWords Long Long true (longWords 0x41FFFFFF 0xFFFFFFFF) (longWords 0x41FFFFFF 0xFFFFFFFF) ≡ gives (longWords 0x42FFFFFF 0xFFFFFFFE)
+  pub shortened-square : shortenedProduct 14 6 true (longParts (longWords 0x41FFFFFF 0xFFFFFFFF)) (longParts (longWords 0x41FFFFFF 0xFFFFFFFF))
+      ≡ gives (longParts (longWords 0x42FFFFFF 0xFFFFFFFD))
   pub within-range : productWords Short Short true (shortWords 0x60100000) (shortWords 0x60100000) ≡ gives (shortWords 0x7F100000)
   pub overflow : productWords Short Short true (shortWords 0x60100000) (shortWords 0x61100000) ≡ stops 9
   pub unnormalised : productWords Short Short true (shortWords 0x7F000001) (shortWords 0x46100000) ≡ gives (shortWords 0x7F100000)

@@ -23,9 +23,12 @@ abbrev pub partsOf : Width → Words → Parts
 partsOf Short a = shortParts (a .high)
 partsOf Long a = longParts a
 
--- a short word by itself
+-- a short word by itself, and the two words of a long number
 abbrev pub shortWords : ℕ → Words
 shortWords w = record { high = w; low = 0 }
+
+abbrev pub longWords : ℕ → ℕ → Words
+longWords h l = record { high = h; low = l }
 
 -- the words of given parts
 abbrev pub shortWord : Parts → ℕ

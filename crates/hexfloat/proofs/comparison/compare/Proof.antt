@@ -1,42 +1,26 @@
 -- `compare` meets its contract: a word's parts are in range, and each width has its rule.
-use mathlib.Core.Path.{_≡_, sym, ap₂, _∙_, subst}
+use mathlib.Core.Path.{_≡_, _∙_, subst}
 use native.Mathlib.Omega.{arith}
 use borrow.Author.Needs.{needs}
-use Rattle.hexfloat.specs.declared.word.Parts.{Parts}
 use Rattle.hexfloat.specs.declared.word.Width.{Width}
-use Rattle.hexfloat.specs.declared.word.Words.{Words}
 use Rattle.hexfloat.specs.Compare.{comparedBy, comparedWords}
 use Rattle.hexfloat.specs.Operand.{Operands}
 use Rattle.hexfloat.specs.Word.{digitsOf}
+use Rattle.hexfloat.proofs.Compared.{in-words}
 use Rattle.hexfloat.proofs.Fits.{held, alignable}
 use Rattle.hexfloat.proofs.comparison.compare.Statement.{statement}
 use Rattle.hexfloat.proofs.comparison.compare.Tie as tie
 
 -- with the parts of both operands, whose width is v
-module _ (c : tie.After-parts-of2) where
-  abbrev w : Width
-  w = c .before .before .args .width
+module _ (c : tie.After-parts-of2) {v : Width} (e : c .before .before .args .width ≡ v) where
+  fits : Operands (digitsOf v) (c .before .parts-of .result) (c .parts-of2 .result)
+  fits =
+      let a = c .before .before .args in
+      subst (λ (z : Width). Operands (digitsOf z) (c .before .parts-of .result) (c .parts-of2 .result)) e
+      (held (a .width) (a .a) (a .b) (c .before .parts-of .ensures) (c .parts-of2 .ensures) (record { high = omega arith; low = omega arith }) (record { high = omega arith; low = omega arith }))
 
-  abbrev a : Words
-  a = c .before .before .args .a
-
-  abbrev b : Words
-  b = c .before .before .args .b
-
-  abbrev x : Parts
-  x = c .before .parts-of .result
-
-  abbrev y : Parts
-  y = c .parts-of2 .result
-
-  fits : {v : Width} → w ≡ v → Operands (digitsOf v) x y
-  fits e =
-      subst (λ (z : Width). Operands (digitsOf z) x y) e
-      (held w a b (c .before .parts-of .ensures) (c .parts-of2 .ensures) (record { high = omega arith; low = omega arith }) (record { high = omega arith; low = omega arith }))
-
-  said : {v : Width} → w ≡ v → comparedBy v x y ≡ comparedWords w a b
-  unfolding comparedWords
-  said e = subst (λ (z : Width). comparedBy z x y ≡ comparedWords w a b) e (ap₂ (comparedBy w) (c .before .parts-of .ensures) (c .parts-of2 .ensures))
+  said : comparedBy v (c .before .parts-of .result) (c .parts-of2 .result) ≡ comparedWords (c .before .before .args .width) (c .before .before .args .a) (c .before .before .args .b)
+  said = in-words (c .before .before .args .a) (c .before .before .args .b) e (c .before .parts-of .ensures) (c .parts-of2 .ensures)
 
 parts-of-requires : tie.Need-parts-of-requires
 parts-of-requires c κs = search needs
