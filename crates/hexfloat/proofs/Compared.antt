@@ -9,7 +9,7 @@ use borrow.Author.Tests.{eq-eqb, ne-eqb}
 use Rattle.hexfloat.specs.declared.word.Parts.{Parts}
 use Rattle.hexfloat.specs.declared.word.Width.{Width}
 use Rattle.hexfloat.specs.declared.word.Words.{Words}
-use Rattle.hexfloat.specs.Word.{partsOf, magnitude}
+use Rattle.hexfloat.specs.Word.{partsOf}
 use Rattle.hexfloat.specs.Compare.{rankCondition, signedRank, compared, comparedBy, comparedWords}
 use Rattle.hexfloat.specs.Operand.{Operand, magnitudeKey}
 use Rattle.hexfloat.proofs.Keys.{same-rank, key-less, key-same, zero-key, some-key}

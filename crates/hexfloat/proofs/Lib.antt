@@ -10,9 +10,9 @@ pub mod Divided
 pub mod Edges
 pub mod Fits
 pub mod Keys
-pub mod LongCompares
 pub mod Multiplied
 pub mod Normalised
+pub mod Ordered
 pub mod Placed
 pub mod Products
 pub mod Ratio

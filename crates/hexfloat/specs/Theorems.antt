@@ -1,8 +1,9 @@
 -- What is proved of the definitions, in the words of document 01: the exact value decides. The proofs are in proofs/, under the same names.
 use mathlib.Core.Path.{_≡_}
-use mathlib.Core.Bool.{Bool, true}
+use mathlib.Core.Bool.{Bool, true, cond}
 use mathlib.Core.Logic.{_⊎_}
 use Prim.Native.Nat.{ℕ, suc, _+_, _-_, _*_, _/_, _%_, _^_, _≤_, _<_}
+use lib.Dec.{eqb}
 use Rattle.hexfloat.specs.declared.addition.Sense.{Sense}
 use Rattle.hexfloat.specs.declared.signed.Signed.{Signed}
 use Rattle.hexfloat.specs.declared.word.Coded.{Coded}
@@ -175,6 +176,15 @@ pub record LongCompare (a b : Words) : Type 0 where
   pub rule : comparedWords Long a b ≡ comparedAligned 2 (longParts a) (longParts b)
   pub order : AlignedOrder 14 2 (longParts a) (longParts b)
   pub agree : ZeroOrNormalised 14 (longParts a) → ZeroOrNormalised 14 (longParts b) → comparedWords Long a b ≡ compared 14 (longParts a) (longParts b)
+
+-- 8.7: the condition of the other order, 3 for 1 and 1 for 3
+abbrev pub opposite : ℕ → ℕ
+opposite c = cond (eqb c 0) 0 (4 - c)
+
+-- 8.11, 8.12: the operands interchanged, and a number against itself
+pub record CompareLaws (w : Width) (a b : Words) : Type 0 where
+  pub interchanged : comparedWords w b a ≡ opposite (comparedWords w a b)
+  pub itself : comparedWords w a a ≡ 0
 
 -- CVFX: the magnitude is the exact value times 65,536 cut toward zero, and no other number is.
 pub record ExactFixed (p : Parts) : Type 0 where

@@ -1,20 +1,21 @@
--- The theorems on long compares of specs/Theorems.antt, over the digits d and the guard digits g.
+-- The theorems on compares of specs/Theorems.antt: those of aligned fractions over the digits d and the guard digits g.
 use mathlib.Core.Path.{_≡_, refl, sym, ap, _∙_}
 use mathlib.Core.Logic.{_⊎_, ⊎-elim}
 use Prim.Native.Nat.{ℕ, _+_, _-_, _*_, _%_, _^_, _≤_, _<_}
 use native.Mathlib.Nat.{le-trans, le-of-eq, le-of-lt, lt-of-lt-of-le, lt-of-le-of-lt, lt-of-not-le, not-le-of-lt, lt-of-mul-lt-mul-right, mul-le-mul-left, mul-le-mul-right, mul-lt-mul-of-pos-right, mul-right-comm, zero-mul, mod-one, div-mul-le-self, eq-of-mul-eq-mul-right, eq-zero-or-pos}
 use native.Mathlib.Omega.{arith}
 use Rattle.hexfloat.specs.declared.word.Parts.{Parts}
-use Rattle.hexfloat.specs.declared.word.Width.the-variants.{Long}
+use Rattle.hexfloat.specs.declared.word.Width.{Width}
+use Rattle.hexfloat.specs.declared.word.Width.the-variants.{Short, Long}
 use Rattle.hexfloat.specs.declared.word.Words.{Words}
 use Rattle.hexfloat.specs.Align.{commonCharacteristic, aligned}
-use Rattle.hexfloat.specs.Compare.{compared, comparedAligned, comparedWords}
-use Rattle.hexfloat.specs.Theorems.{DropsZeros, ZeroOrNormalised, AlignedOrder, LongCompare}
-use Rattle.hexfloat.specs.Word.{trueZero, longParts, magnitude}
-use Rattle.hexfloat.proofs.Aligned.{common-first, common-second, common-left, common-right, aligned-level, aligned-some, aligned-kept, aligned-mono}
-use Rattle.hexfloat.proofs.Compared.{Alike, alike-rank, by-signs}
+use Rattle.hexfloat.specs.Compare.{rankCondition, above, below, signedRank, compared, comparedAligned, comparedBy, comparedWords}
+use Rattle.hexfloat.specs.Theorems.{DropsZeros, ZeroOrNormalised, AlignedOrder, LongCompare, opposite, CompareLaws}
+use Rattle.hexfloat.specs.Word.{partsOf, longParts, magnitude}
+use Rattle.hexfloat.proofs.Aligned.{common-first, common-second, common-left, common-right, common-swapped, aligned-level, aligned-some, aligned-kept, aligned-mono}
+use Rattle.hexfloat.proofs.Compared.{alike-rank, by-signs}
 use Rattle.hexfloat.proofs.Digits.{pos, mono}
-use Rattle.hexfloat.proofs.Keys.{Trichotomy, less, same, more, trichotomy, level-or-same}
+use Rattle.hexfloat.proofs.Keys.{Trichotomy, less, same, more, trichotomy, ranks-below, ranks-level, ranks-above, level-or-same}
 use Rattle.hexfloat.proofs.Sums.{exact-alignment}
 
 -- a normalised number has d digits, and one that has a characteristic is not zero
@@ -129,3 +130,36 @@ long-compare a b = record {
   order = aligned-order 14 2 (longParts a) (longParts b);
   agree = aligned-order 14 2 (longParts a) (longParts b) .normalised;
 }
+
+-- the operands interchanged
+turned : (x y : ℕ) → rankCondition y x ≡ opposite (rankCondition x y)
+turned x y = go (trichotomy x y)
+  where
+    go : Trichotomy x y → rankCondition y x ≡ opposite (rankCondition x y)
+    go (less h) = rw (ranks-above y x h, ranks-below x y h)
+    go (same e) = rw (ranks-level y x (sym e), ranks-level x y e)
+    go (more h) = rw (ranks-below y x h, ranks-above x y h)
+
+signed-turned : (s m t n : ℕ) → signedRank t n s m ≡ opposite (signedRank s m t n)
+signed-turned s m t n = turned (above s m + below t n) (above t n + below s m)
+
+aligned-turned : (g : ℕ) (x y : Parts) → comparedAligned g y x ≡ opposite (comparedAligned g x y)
+unfolding comparedAligned
+aligned-turned g x y =
+    ap (λ (k : ℕ). signedRank (y .sign) (aligned g k y) (x .sign) (aligned g k x)) (common-swapped y x)
+    ∙ signed-turned (x .sign) (aligned g (commonCharacteristic x y) x) (y .sign) (aligned g (commonCharacteristic x y) y)
+
+-- a number against itself
+signed-itself : (s m : ℕ) → signedRank s m s m ≡ 0
+signed-itself s m = ranks-level (above s m + below s m) (above s m + below s m) refl
+
+by-width : (w : Width) (x y : Parts) → (comparedBy w y x ≡ opposite (comparedBy w x y)) × (comparedBy w x x ≡ 0)
+unfolding compared comparedAligned
+by-width Short x y = (signed-turned (x .sign) (magnitude 6 x) (y .sign) (magnitude 6 y), signed-itself (x .sign) (magnitude 6 x))
+by-width Long x y = (aligned-turned 2 x y, signed-itself (x .sign) (aligned 2 (commonCharacteristic x x) x))
+
+pub compare-laws : (w : Width) (a b : Words) → CompareLaws w a b
+unfolding comparedWords
+compare-laws w a b =
+    let laws = by-width w (partsOf w a) (partsOf w b) in
+    record { interchanged = laws .0; itself = laws .1 }
