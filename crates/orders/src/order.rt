@@ -92,8 +92,8 @@ fn on_cells(verb: Verb, r1: u16, r2: u16, at: u16) -> Legality
     row(verb, Width::Short, Place::Nowhere, r1, r2, at)
 }
 
-// The row of a code.
-fn look_up(code: u16) -> Legality
+// The row of a code; `Illegal` where the code is unknown.
+pub fn look_up(code: u16) -> Legality
     ensures { λ r. ⌜ saysLegality r ≡ operationOf code ⌝ }
 {
     match code {
