@@ -1,5 +1,6 @@
 -- The numbers of a step's stops: 1 to 13, and so never the 0 of a step taken.
 use Prim.Native.Nat.{ℕ, _+_, _/_, _≤_}
+use mathlib.Core.Path.{_≡_, refl}
 use mathlib.Core.List.{List, [], _∷_}
 use mathlib.Core.Bool.{true, false, not}
 use lib.Dec.{eqb, ltb}
@@ -26,6 +27,50 @@ use Rattle.machine.specs.Protect.{anyProtected}
 use Rattle.hexfloat.proofs.Answers.{StopsBy, provided-by, checked-by, mapped-by, then-by, cond-by, numbered-by}
 use Rattle.machine.proofs.Checks.{entry-number}
 
+-- the numbers that an order's own effect stops by, for any P that holds of 8 to 11, and of 12 if the order halts
+module _ (P : ℕ → Type 0) (within : (n : ℕ) → 8 ≤ n → n ≤ 11 → P n) where
+  -- a result of arithmetic, put into registers
+  result-by : (lo : ℕ) → 8 ≤ lo → (f : Words → Effect) {r : Answer Words} → Numbered lo 10 r → StopsBy P (mapped f r)
+  result-by lo some f {r} h = mapped-by P f r (numbered-by P (λ n l u. within n (omega arith) (omega arith)) h)
+
+  performed-by : (v : Verb) (w : Width) (o : Order) (g : Registers) (a : ℕ) (b : Words) → (isHalt v ≡ true → P 12) → StopsBy P (performed v w o g a b)
+  unfolding performed
+  performed-by Verb.Load w o g a b h = tt
+  performed-by Verb.Complement w o g a b h = tt
+  performed-by Verb.Compare w o g a b h = tt
+  performed-by Verb.Fix w o g a b h =
+      mapped-by P (fixedInto (g .status) (o .r1)) (toFixed (b .high)) (numbered-by P (λ n l u. within n (omega arith) (omega arith)) (stops-numbered .fixed (b .high)))
+  performed-by Verb.Float w o g a b h = tt
+  performed-by Verb.Divide w o g a b h = result-by 8 (omega arith) (resultInto false w (g .status) (o .r1)) (stops-numbered .quotient w (eqb (g .status .mask) 1) (floatOperand w (g .float) (o .r1)) b)
+  performed-by Verb.Store w o g a b h = tt
+  performed-by Verb.LoadGeneral w o g a b h = tt
+  performed-by Verb.StoreGeneral w o g a b h = tt
+  performed-by Verb.SetMask w o g a b h = tt
+  performed-by Verb.Jump w o g a b h = tt
+  performed-by Verb.CountDown w o g a b h = tt
+  performed-by Verb.Halt w o g a b h = h refl
+  performed-by (Verb.Sum sense) w o g a b h = result-by 9 (omega arith) (resultInto true w (g .status) (o .r1)) (stops-numbered .sum sense w (eqb (g .status .mask) 1) (floatOperand w (g .float) (o .r1)) b)
+  performed-by Verb.Multiply w o g a b h =
+      result-by 9 (omega arith) (resultInto false (productWidth w (o .r1)) (g .status) (o .r1))
+      (stops-numbered .product w (productWidth w (o .r1)) (eqb (g .status .mask) 1) (floatOperand w (g .float) (o .r1)) b)
+
+  pub effect-by : (op : Operation) (o : Order) (g : Registers) (m : List ℕ) → (isHalt (op .verb) ≡ true → P 12) → StopsBy P (effectOf op o g m)
+  unfolding effectOf
+  effect-by op o g m h = performed-by (op .verb) (op .width) o g (addressOf o (g .general)) (secondOperand (op .place) (op .width) o (g .float) (g .general) m) h
+
+-- check 5 answers 5
+module _ (P : ℕ → Type 0) (five : P 5) where
+  among-by : (ops : List Operation) (k n : ℕ) → StopsBy P (rowAmong ops k n)
+  unfolding rowAmong
+  among-by [] k n = five
+  among-by (op ∷ ops) k n = cond-by P (eqb n k) (gives op) (rowAmong ops (k + 1) n) tt (among-by ops (k + 1) n)
+
+  pub legal-by : (o : Order) → StopsBy P (legalOf o)
+  unfolding legalOf operationOf
+  legal-by o =
+      then-by P (operationOf (o .code)) (λ op. provided (withinLimits op o) 5 (gives op)) (among-by rows 1 (o .code))
+      (λ op. provided-by P (withinLimits op o) 5 _ five tt)
+
 pub record StepNumber (n : ℕ) : Type 0 where
   pub some : 1 ≤ n
   pub most : n ≤ 13
@@ -34,53 +79,14 @@ module _ (k : ℕ) (some : 1 ≤ k) (most : k ≤ 13) where
   number : StepNumber k
   number = record { some = some; most = most }
 
-numbered : {lo hi : ℕ} → 1 ≤ lo → hi ≤ 13 → (n : ℕ) → lo ≤ n → n ≤ hi → StepNumber n
-numbered a b n l u = record { some = omega arith; most = omega arith }
-
--- a result of arithmetic, put into registers
-result-by : (lo : ℕ) → 1 ≤ lo → (f : Words → Effect) {r : Answer Words} → Numbered lo 10 r → StopsBy StepNumber (mapped f r)
-result-by lo some f {r} h = mapped-by StepNumber f r (numbered-by StepNumber (numbered some (omega arith)) h)
-
-performed-by : (v : Verb) (w : Width) (o : Order) (g : Registers) (a : ℕ) (b : Words) → StopsBy StepNumber (performed v w o g a b)
-unfolding performed
-performed-by Verb.Load w o g a b = tt
-performed-by Verb.Complement w o g a b = tt
-performed-by Verb.Compare w o g a b = tt
-performed-by Verb.Fix w o g a b =
-    mapped-by StepNumber (fixedInto (g .status) (o .r1)) (toFixed (b .high)) (numbered-by StepNumber (numbered (omega arith) (omega arith)) (stops-numbered .fixed (b .high)))
-performed-by Verb.Float w o g a b = tt
-performed-by Verb.Divide w o g a b = result-by 8 (omega arith) (resultInto false w (g .status) (o .r1)) (stops-numbered .quotient w (eqb (g .status .mask) 1) (floatOperand w (g .float) (o .r1)) b)
-performed-by Verb.Store w o g a b = tt
-performed-by Verb.LoadGeneral w o g a b = tt
-performed-by Verb.StoreGeneral w o g a b = tt
-performed-by Verb.SetMask w o g a b = tt
-performed-by Verb.Jump w o g a b = tt
-performed-by Verb.CountDown w o g a b = tt
-performed-by Verb.Halt w o g a b = number 12 (omega arith) (omega arith)
-performed-by (Verb.Sum sense) w o g a b = result-by 9 (omega arith) (resultInto true w (g .status) (o .r1)) (stops-numbered .sum sense w (eqb (g .status .mask) 1) (floatOperand w (g .float) (o .r1)) b)
-performed-by Verb.Multiply w o g a b =
-    result-by 9 (omega arith) (resultInto false (productWidth w (o .r1)) (g .status) (o .r1))
-    (stops-numbered .product w (productWidth w (o .r1)) (eqb (g .status .mask) 1) (floatOperand w (g .float) (o .r1)) b)
-
 judged-by : (o : Order) (g : Registers) (used : ℕ) (p m : List ℕ) (journal : ℕ) (op : Operation) → StopsBy StepNumber (judged o g used p m journal op)
-unfolding judged effectOf
+unfolding judged
 judged-by o g used p m journal op =
     provided-by StepNumber (not (isHalt (op .verb))) 12 _ (number 12 (omega arith) (omega arith))
     (provided-by StepNumber (ltb used (journal / 4)) 13 _ (number 13 (omega arith) (omega arith))
     (provided-by StepNumber (present (spanOf op) (addressOf o (g .general)) (length m)) 6 _ (number 6 (omega arith) (omega arith))
     (provided-by StepNumber (not (anyProtected p (addressOf o (g .general)) (storedOf op))) 7 _ (number 7 (omega arith) (omega arith))
-    (performed-by (op .verb) (op .width) o g (addressOf o (g .general)) (secondOperand (op .place) (op .width) o (g .float) (g .general) m)))))
-
-among-by : (ops : List Operation) (k n : ℕ) → StopsBy StepNumber (rowAmong ops k n)
-unfolding rowAmong
-among-by [] k n = number 5 (omega arith) (omega arith)
-among-by (op ∷ ops) k n = cond-by StepNumber (eqb n k) (gives op) (rowAmong ops (k + 1) n) tt (among-by ops (k + 1) n)
-
-legal-by : (o : Order) → StopsBy StepNumber (legalOf o)
-unfolding legalOf operationOf
-legal-by o =
-    then-by StepNumber (operationOf (o .code)) (λ op. provided (withinLimits op o) 5 (gives op)) (among-by rows 1 (o .code))
-    (λ op. provided-by StepNumber (withinLimits op o) 5 _ (number 5 (omega arith) (omega arith)) tt)
+    (effect-by StepNumber (λ n l u. number n (omega arith) (omega arith)) op o g m (λ z. number 12 (omega arith) (omega arith))))))
 
 pub decided-by : (d p : List ℕ) (g : Registers) (used : ℕ) (m : List ℕ) (journal : ℕ) → StopsBy StepNumber (decided d p g used m journal)
 unfolding decided
@@ -89,4 +95,4 @@ decided-by d p g used m journal =
     let k = entryStop (length d) (length p) (g .status) used (length m) journal in
     checked-by StepNumber k _ (λ z. record { some = omega arith; most = omega (arith, entry-number (length p) (g .status) used (length m) journal (length d)) })
     (provided-by StepNumber (ltb (g .status .pointer) (length d / 4)) 4 _ (number 4 (omega arith) (omega arith))
-    (then-by StepNumber (legalOf o) (judged o g used p m journal) (legal-by o) (judged-by o g used p m journal)))
+    (then-by StepNumber (legalOf o) (judged o g used p m journal) (legal-by StepNumber (number 5 (omega arith) (omega arith)) o) (judged-by o g used p m journal)))

@@ -25,14 +25,16 @@ heldStop protect s used memory journal = cond (buffersSized protect memory journ
 unfoldable pub entryStop : ℕ → ℕ → Status → ℕ → ℕ → ℕ → ℕ
 entryStop deck protect s used memory journal = cond (deckSized deck) (heldStop protect s used memory journal) 1
 
--- checks 12, 13, 6 and 7 of a legal order, then its effect
-unfoldable pub judged : Order → Registers → ℕ → List ℕ → List ℕ → ℕ → Operation → Answer Effect
-judged o g used p m journal op =
-    provided (not (isHalt (op .verb))) 12
-    (provided (ltb used (journal / 4)) 13
-    (provided (present (spanOf op) (addressOf o (g .general)) (length m)) 6
+-- checks 6 and 7 of a legal order, then its effect
+abbrev pub accessed : Order → Registers → List ℕ → List ℕ → Operation → Answer Effect
+accessed o g p m op =
+    provided (present (spanOf op) (addressOf o (g .general)) (length m)) 6
     (provided (not (anyProtected p (addressOf o (g .general)) (storedOf op))) 7
-    (effectOf op o g m))))
+    (effectOf op o g m))
+
+-- checks 12 and 13 before them
+unfoldable pub judged : Order → Registers → ℕ → List ℕ → List ℕ → ℕ → Operation → Answer Effect
+judged o g used p m journal op = provided (not (isHalt (op .verb))) 12 (provided (ltb used (journal / 4)) 13 (accessed o g p m op))
 
 abbrev pub judgedAt : Order → Registers → ℕ → List ℕ → List ℕ → ℕ → Answer Effect
 judgedAt o g used p m journal = andThen (legalOf o) (judged o g used p m journal)

@@ -9,6 +9,7 @@ pub mod Operand
 pub mod Change
 pub mod Jump
 pub mod Effect
+pub mod Fetch
 pub mod Journal
 pub mod Decide
 pub mod Machine

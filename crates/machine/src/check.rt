@@ -110,3 +110,14 @@ pub fn any_protected(protect: &[u8], at: u32, n: u32) -> bool
     }
     false
 }
+
+// The same for callers that have made no check: a halfword that the list does not have is not protected.
+pub fn protected_at(protect: &[u8], a: u32) -> bool
+    ensures { λ r. ⌜ r ≡ isProtected (now (protect .entry)) a ⌝ }
+{
+    let i = a as usize;
+    if protect.len() <= i {
+        return false;
+    }
+    is_protected(protect, i)
+}

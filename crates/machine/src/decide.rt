@@ -1,5 +1,5 @@
 // Every check of a step, in the table's order.
-use crate::address::address;
+use crate::addressing::address;
 use crate::check::any_protected;
 use crate::check::buffers_sized;
 use crate::check::deck_sized;

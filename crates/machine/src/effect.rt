@@ -1,6 +1,6 @@
 // What a legal order does whose storage operand is there: one arm a verb, over the width of its
 // operands.
-use crate::address::address;
+use crate::addressing::address;
 use crate::change::Change;
 use crate::change::float_change;
 use crate::change::storage_change;

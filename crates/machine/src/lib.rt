@@ -1,15 +1,17 @@
 // The machine on the desk: registers, checks, effects, journal; step, run and back step.
 //
 // A step decides first and writes afterwards, so a stop leaves everything as it was. What this file
-// exports takes the state by value and hands it back, has no `requires`, and has one equation with a
-// definition of specs/ as its whole contract; functions between the modules may have a `requires`.
-mod address;
+// exports has no `requires` and one equation with a definition of specs/ as its whole contract; functions
+// between the modules may have a `requires`. `fresh`, `step`, `run` and `back` hand a state back; `entry`,
+// `fetch`, `address` and `protected_at` are for tools that ask and write nothing.
+mod addressing;
 mod advance;
 mod change;
 mod check;
 mod decide;
 mod deck;
 mod effect;
+mod fetching;
 mod journal;
 mod jump;
 mod operand;
@@ -20,6 +22,12 @@ mod stop;
 mod undoing;
 mod verdict;
 
+pub use addressing::address;
+pub use check::protected_at;
+pub use decide::entry;
+pub use fetching::Fetched;
+pub use fetching::Operands;
+pub use fetching::fetch;
 pub use running::Ran;
 pub use running::run;
 pub use state::Registers;
