@@ -1,0 +1,139 @@
+-- What is answered of a legal order, by the checks that it passes.
+use Prim.Native.Nat.{ℕ, _+_, _<_, _≤_}
+use mathlib.Core.Path.{_≡_, refl, sym, ap, _∙_}
+use mathlib.Core.List.{List, [], _∷_}
+use mathlib.Core.Bool.{Bool, true, false, cond, not}
+use lib.ListN.{length}
+use native.Mathlib.Omega.{arith}
+use borrow.Author.Tests.{ne-eqb, le-leb, lt-leb, lt-ltb, le-ltb}
+use mathlib.Core.Logic.{inl, inr}
+use types.Run.{OneOf}
+use denote.Enum.Declared.{tagOf}
+use Rattle.hexfloat.specs.Answer.{Answer, gives, stops}
+use Rattle.orders.specs.declared.order.Operation.{Operation}
+use Rattle.orders.specs.declared.order.Order.{Order}
+use Rattle.orders.specs.Order.{legalOf, spanOf, storedOf}
+use Rattle.machine.specs.declared.fetching.Fetched.{Fetched}
+use Rattle.machine.specs.declared.fetching.Operands.{Operands}
+use Rattle.machine.specs.declared.state.Registers.{Registers}
+use Rattle.machine.specs.Address.{addressOf}
+use Rattle.machine.specs.Check.{present}
+use Rattle.machine.specs.Decide.{accessed}
+use Rattle.machine.specs.Effect.{effectOf}
+use Rattle.machine.specs.Fetch.{operandsOf, operandsRead, saysFetched}
+use Rattle.machine.specs.Protect.{isProtected}
+use Rattle.machine.specs.Step.{stepped}
+use Rattle.machine.proofs.fetching.Fetched as fetched-type
+use Rattle.hexfloat.proofs.Answers.{gives-inj, never, StopsBy}
+use Rattle.cause.specs.declared.naming.Cause.{Cause}
+use Rattle.cause.specs.declared.naming.Named.{Named}
+use Rattle.cause.specs.Arithmetic.{stopIn}
+use Rattle.cause.specs.Attempt.{attemptDeck, attemptProtect, attemptMachine, Accessible}
+use Rattle.cause.specs.Cause.{cause, causeNumber, namedFor, explained}
+use Rattle.cause.specs.Storage.{lowest, isAbsent, lowestAbsent, lowestProtected}
+use Rattle.cause.specs.Words.{wordsRead}
+use Rattle.cause.proofs.Attempted.{attempt-stop}
+use Rattle.cause.proofs.Lowest.{any-lowest}
+use Rattle.cause.proofs.Reached.{Own, own-by}
+
+module _ (op : Operation) (o : Order) (g : Registers) (m : List ℕ) (legal : legalOf o ≡ gives op) where
+  abbrev there : Bool
+  there = present (spanOf op) (addressOf o (g .general)) (length m)
+
+  abbrev read : Answer Operands
+  read = operandsRead o (g .float) (g .general) m
+
+  -- S of an order whose operands were not read is absent, and of one whose operands were read it is there
+  not-given : (k : ℕ) → stops k ≡ read → there ≡ false
+  unfolding operandsRead
+  not-given k h = cases there (rw (legal) at h)
+    where
+      cases : (b : Bool) → stops k ≡ cond b (gives (operandsOf o (g .float) (g .general) m op)) (stops 6) → b ≡ false
+      cases true e = never e
+      cases false e = refl
+
+  pub unread : (r : Fetched) → OneOf (1 ∷ 2 ∷ []) (tagOf fetched-type.the-type r) → saysFetched r ≡ read → there ≡ false
+  unread (Fetched.Read q) (inl e) h = absurd (omega arith)
+  unread (Fetched.Read q) (inr e) h = absurd (omega arith)
+  unread Fetched.Illegal t h = not-given 5 h
+  unread Fetched.Absent t h = not-given 6 h
+
+  given : (q : Operands) → gives q ≡ read → (there ≡ true) × (q ≡ operandsOf o (g .float) (g .general) m op)
+  unfolding operandsRead
+  given q h = cases there refl (rw (legal) at h)
+    where
+      cases :
+          (b : Bool) → there ≡ b → gives q ≡ cond b (gives (operandsOf o (g .float) (g .general) m op)) (stops 6) →
+          (there ≡ true) × (q ≡ operandsOf o (g .float) (g .general) m op)
+      cases true e z = (e, gives-inj z)
+      cases false e z = never (sym z)
+
+-- the number of an answer that stops by one of the arithmetic's
+stopped : {A : Type 0} (a : Answer A) → StopsBy Own a → (stopIn a ≡ 0 → ⊥) → Own (stopIn a)
+stopped (gives x) n z = absurd (z refl)
+stopped (stops k) n z = n
+
+-- of an order that passed checks 5, 12 and 13
+module _ (op : Operation) (o : Order) (g : Registers) (p m : List ℕ) (h : Accessible op o g) where
+  abbrev at : ℕ
+  at = addressOf o (g .general)
+
+  abbrev answer : Cause
+  answer = explained (stopIn (accessed o g p m op)) o g m p
+
+  pub explain-absent : present (spanOf op) at (length m) ≡ false → answer ≡ cause 6 (Named.Address (lowest (isAbsent (length m)) at (spanOf op)))
+  unfolding causeNumber namedFor lowestAbsent
+  explain-absent absent = rw (absent, h .legal)
+
+  module _ (q : Operands) (operands : gives q ≡ operandsRead o (g .float) (g .general) m) where
+    reached : present (spanOf op) at (length m) ≡ true
+    reached = given op o g m (h .legal) q operands .0
+
+    pub explain-protected : lowest (isProtected p) at (storedOf op) < at + storedOf op → answer ≡ cause 7 (Named.Address (lowest (isProtected p) at (storedOf op)))
+    unfolding causeNumber namedFor lowestProtected
+    explain-protected l = rw (reached, any-lowest p at (storedOf op), lt-ltb _ _ l, h .legal)
+
+    module _ (free : at + storedOf op ≤ lowest (isProtected p) at (storedOf op)) where
+      abbrev number : ℕ
+      number = stepped (attemptDeck o) attemptProtect (attemptMachine g (q .second)) .stop
+
+      -- the order is tried
+      tried : number ≡ stopIn (effectOf op o g m)
+      tried =
+          ap (λ (z : Operands). stepped (attemptDeck o) attemptProtect (attemptMachine g (z .second)) .stop) (given op o g m (h .legal) q operands .1)
+          ∙ attempt-stop op o g m h
+
+      pub explain-taken : number ≡ 0 → answer ≡ cause 18 Named.Nothing
+      unfolding causeNumber namedFor
+      explain-taken taken = rw (reached, any-lowest p at (storedOf op), le-ltb _ _ free, sym tried ∙ taken)
+
+      pub explain-words : (number ≡ 0 → ⊥) → answer ≡ cause number (wordsRead (gives q))
+      unfolding causeNumber namedFor
+      explain-words some =
+          let n = stopped (effectOf op o g m) (own-by op o g m (h .goes)) (λ z. some (tried ∙ z)) in
+          rw (
+            reached,
+            any-lowest p at (storedOf op),
+            le-ltb _ _ free,
+            ← tried,
+            ne-eqb number 0 some,
+            le-leb number 11 (omega (arith, tried, n .most)),
+            ne-eqb number 5 (λ z. omega (arith, tried, n .some)),
+            ne-eqb number 6 (λ z. omega (arith, tried, n .some)),
+            ne-eqb number 7 (λ z. omega (arith, tried, n .some)),
+            le-leb 8 number (omega (arith, tried, n .some)),
+            operands,
+          )
+
+-- a stop before the order is looked at names nothing
+pub explain-early : (k : ℕ) (o : Order) (g : Registers) (m p : List ℕ) → (k ≡ 0 → ⊥) → k ≤ 4 → explained k o g m p ≡ cause k Named.Nothing
+unfolding causeNumber namedFor
+explain-early k o g m p some few =
+    rw (
+      ne-eqb k 0 some,
+      le-leb k 11 (omega arith),
+      ne-eqb k 5 (λ z. omega arith),
+      ne-eqb k 6 (λ z. omega arith),
+      ne-eqb k 7 (λ z. omega arith),
+      lt-leb 8 k (omega arith),
+    )

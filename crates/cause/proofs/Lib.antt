@@ -1,0 +1,7 @@
+pub mod Arithmetic
+pub mod Attempted
+pub mod Cells
+pub mod Explained
+pub mod Lowest
+pub mod Reached
+pub mod Theorems

@@ -1,0 +1,135 @@
+-- What the number of a step's stop says of the checks before it.
+use Prim.Native.Nat.{ℕ, _/_, _≤_}
+use mathlib.Core.Path.{_≡_, refl, sym, ap, subst, _∙_}
+use mathlib.Core.List.{List}
+use mathlib.Core.Bool.{Bool, true, false, not}
+use lib.Dec.{ltb}
+use lib.ListN.{length}
+use native.Mathlib.Omega.{arith}
+use borrow.Author.Tests.{not-true, not-false}
+use Rattle.hexfloat.specs.Answer.{Answer, gives, stops, provided, andThen}
+use Rattle.orders.specs.declared.order.Operation.{Operation}
+use Rattle.orders.specs.declared.order.Order.{Order}
+use Rattle.orders.specs.Order.{legalOf, spanOf, storedOf, isHalt, orderAt}
+use Rattle.machine.specs.declared.state.Registers.{Registers}
+use Rattle.machine.specs.Address.{addressOf}
+use Rattle.machine.specs.Check.{present}
+use Rattle.machine.specs.Decide.{entryStop, judged, decided}
+use Rattle.machine.specs.Effect.{effectOf}
+use Rattle.machine.specs.Protect.{anyProtected}
+use Rattle.hexfloat.proofs.Answers.{never, stops-inj, StopsBy, checked-by}
+use Rattle.machine.proofs.Checks.{entry-number}
+use Rattle.machine.proofs.Refusals.{effect-by, legal-by}
+
+-- answers by what is known where they stop
+module _ (P : ℕ → Type 0) where
+  -- a check, and what it leaves known to the rest
+  provided-known : {A : Type 0} (ok : Bool) (n : ℕ) (rest : Answer A) → (ok ≡ false → P n) → (ok ≡ true → StopsBy P rest) → StopsBy P (provided ok n rest)
+  provided-known true n rest failed passed = passed refl
+  provided-known false n rest failed passed = failed refl
+
+  then-known :
+      {A B : Type 0} (a : Answer A) (f : A → Answer B) → ((k : ℕ) → a ≡ stops k → P k) → ((x : A) → a ≡ gives x → StopsBy P (f x)) → StopsBy P (andThen a f)
+  then-known (gives x) f failed passed = passed x refl
+  then-known (stops k) f failed passed = failed k refl
+
+  stops-known : {A : Type 0} (a : Answer A) → ((k : ℕ) → a ≡ stops k → P k) → StopsBy P a
+  stops-known (gives x) h = tt
+  stops-known (stops k) h = h k refl
+
+  stops-at : {A : Type 0} (a : Answer A) (k : ℕ) → a ≡ stops k → StopsBy P a → P k
+  stops-at (gives x) k e h = never (sym e)
+  stops-at (stops n) k e h = subst P (stops-inj e) h
+
+-- the numbers that the arithmetic stops by
+pub record Own (n : ℕ) : Type 0 where
+  pub some : 8 ≤ n
+  pub most : n ≤ 11
+
+pub own-by : (op : Operation) (o : Order) (g : Registers) (m : List ℕ) → isHalt (op .verb) ≡ false → StopsBy Own (effectOf op o g m)
+own-by op o g m goes = effect-by Own (λ n l u. record { some = l; most = u }) op o g m (λ z. absurd (let y : _≡_ {A = ℕ} 0 1 = cc in omega arith))
+
+-- an order o with these registers, protect list and memory that is stopped by k: by check 5, by check 6, by check 7, or by its own arithmetic
+pub record Known (o : Order) (g : Registers) (p m : List ℕ) (k : ℕ) : Type 0 where
+  pub illegal : k ≡ 5 → legalOf o ≡ stops 5
+  pub absent : k ≡ 6 → (op : Operation) × (legalOf o ≡ gives op) × (present (spanOf op) (addressOf o (g .general)) (length m) ≡ false)
+  pub protected : k ≡ 7 → (op : Operation) × (legalOf o ≡ gives op) × (anyProtected p (addressOf o (g .general)) (storedOf op) ≡ true)
+  pub arithmetic :
+      8 ≤ k → k ≤ 11 →
+      (op : Operation) × (legalOf o ≡ gives op) × (present (spanOf op) (addressOf o (g .general)) (length m) ≡ true) × (effectOf op o g m ≡ stops k)
+
+module _ (o : Order) (g : Registers) (p m : List ℕ) where
+  -- nothing is said of a stop before check 5, nor of 12 and 13
+  early : (k : ℕ) → k ≤ 4 → Known o g p m k
+  early k h = record {
+    illegal = λ e. absurd (omega arith);
+    absent = λ e. absurd (omega arith);
+    protected = λ e. absurd (omega arith);
+    arithmetic = λ l u. absurd (omega arith);
+  }
+
+  late : (k : ℕ) → 12 ≤ k → Known o g p m k
+  late k h = record {
+    illegal = λ e. absurd (omega arith);
+    absent = λ e. absurd (omega arith);
+    protected = λ e. absurd (omega arith);
+    arithmetic = λ l u. absurd (omega arith);
+  }
+
+  five : legalOf o ≡ stops 5 → Known o g p m 5
+  five h = record {
+    illegal = λ e. h;
+    absent = λ e. absurd (omega arith);
+    protected = λ e. absurd (omega arith);
+    arithmetic = λ l u. absurd (omega arith);
+  }
+
+  module _ (op : Operation) (legal : legalOf o ≡ gives op) where
+    six : present (spanOf op) (addressOf o (g .general)) (length m) ≡ false → Known o g p m 6
+    six h = record {
+      illegal = λ e. absurd (omega arith);
+      absent = λ e. (op, legal, h);
+      protected = λ e. absurd (omega arith);
+      arithmetic = λ l u. absurd (omega arith);
+    }
+
+    seven : anyProtected p (addressOf o (g .general)) (storedOf op) ≡ true → Known o g p m 7
+    seven h = record {
+      illegal = λ e. absurd (omega arith);
+      absent = λ e. absurd (omega arith);
+      protected = λ e. (op, legal, h);
+      arithmetic = λ l u. absurd (omega arith);
+    }
+
+    own : present (spanOf op) (addressOf o (g .general)) (length m) ≡ true → (k : ℕ) → Own k → effectOf op o g m ≡ stops k → Known o g p m k
+    own there k n h = record {
+      illegal = λ e. absurd (omega (arith, n .some));
+      absent = λ e. absurd (omega (arith, n .some));
+      protected = λ e. absurd (omega (arith, n .some));
+      arithmetic = λ l u. (op, legal, there, h);
+    }
+
+    judged-known : (used journal : ℕ) → StopsBy (Known o g p m) (judged o g used p m journal op)
+    unfolding judged
+    judged-known used journal =
+        let a = addressOf o (g .general) in
+        provided-known (Known o g p m) (not (isHalt (op .verb))) 12 _ (λ z. late 12 (omega arith)) (λ goes.
+        provided-known (Known o g p m) (ltb used (journal / 4)) 13 _ (λ z. late 13 (omega arith)) (λ z.
+        provided-known (Known o g p m) (present (spanOf op) a (length m)) 6 _ six (λ there.
+        provided-known (Known o g p m) (not (anyProtected p a (storedOf op))) 7 _ (λ z. seven (not-false (anyProtected p a (storedOf op)) z)) (λ z.
+        stops-known (Known o g p m) (effectOf op o g m) (λ k h.
+        own there k (stops-at Own (effectOf op o g m) k h (own-by op o g m (not-true (isHalt (op .verb)) goes))) h)))))
+
+  legal-known : (k : ℕ) → legalOf o ≡ stops k → Known o g p m k
+  legal-known k h =
+      let is : k ≡ 5 = stops-at (λ (n : ℕ). n ≡ 5) (legalOf o) k h (legal-by (λ (n : ℕ). n ≡ 5) refl o) in
+      subst (Known o g p m) (sym is) (five (h ∙ ap stops is))
+
+pub decided-known : (d p : List ℕ) (g : Registers) (used : ℕ) (m : List ℕ) (journal : ℕ) → StopsBy (Known (orderAt d (g .status .pointer)) g p m) (decided d p g used m journal)
+unfolding decided
+decided-known d p g used m journal =
+    let o = orderAt d (g .status .pointer) in
+    let k = entryStop (length d) (length p) (g .status) used (length m) journal in
+    checked-by (Known o g p m) k _ (λ z. early o g p m k (omega (arith, entry-number (length p) (g .status) used (length m) journal (length d))))
+    (provided-known (Known o g p m) (ltb (g .status .pointer) (length d / 4)) 4 _ (λ z. early o g p m 4 (omega arith)) (λ z.
+    then-known (Known o g p m) (legalOf o) (judged o g used p m journal) (legal-known o g p m) (λ op legal. judged-known o g p m op legal used journal)))

@@ -1,0 +1,144 @@
+-- What is named is a true cause.
+use Prim.Native.Nat.{ℕ, _+_, _<_, _≤_}
+use mathlib.Core.Path.{_≡_, refl, sym, ap, subst, _∙_}
+use mathlib.Core.List.{List}
+use mathlib.Core.Logic.{⊎-elim}
+use mathlib.Core.Bool.{Bool, true, false, cond, _&&_, _||_}
+use lib.Dec.{eqb, leb}
+use lib.ListN.{length}
+use native.Mathlib.Nat.{eq-zero-or-pos}
+use native.Mathlib.Omega.{arith}
+use borrow.Author.Tests.{ltb-true, eqb-true, eqb-false, leb-true, leb-false, eq-eqb, ne-eqb, le-leb, lt-leb}
+use Rattle.hexfloat.specs.Answer.{Answer, gives, stops}
+use Rattle.orders.specs.declared.order.Operation.{Operation}
+use Rattle.orders.specs.declared.order.Order.{Order}
+use Rattle.orders.specs.Order.{legalOf, spanOf, storedOf}
+use Rattle.machine.specs.declared.state.Registers.{Registers}
+use Rattle.machine.specs.declared.verdict.Effect.{Effect}
+use Rattle.machine.specs.Address.{addressOf}
+use Rattle.machine.specs.Check.{present}
+use Rattle.machine.specs.Fetch.{operandsRead}
+use Rattle.machine.specs.Machine.{Machine, committed}
+use Rattle.machine.specs.Effect.{effectOf}
+use Rattle.machine.specs.Protect.{isProtected, anyProtected}
+use Rattle.machine.specs.Step.{outcome, onward, verdictOf, stepped}
+use Rattle.hexfloat.proofs.Answers.{StopsBy}
+use Rattle.cause.specs.declared.naming.Named.{Named}
+use Rattle.cause.specs.Arithmetic.{stopIn, stopBy}
+use Rattle.cause.specs.Cause.{valuesOf, causeNumber, namedFor, nextOrder, whyOf}
+use Rattle.cause.specs.Cell.{firstCell, breaks}
+use Rattle.cause.specs.Storage.{isAbsent, lowestAbsent, lowestProtected, spanIn, storedIn}
+use Rattle.cause.specs.Theorems.{NamesCell, NamesAddress, TrueCause, wordsIn, Theorems}
+use Rattle.cause.specs.Words.{wordsRead}
+use Rattle.cause.proofs.Arithmetic.{effect-stop, same-stop}
+use Rattle.cause.proofs.Attempted.{step-number}
+use Rattle.cause.proofs.Cells.{first-broken}
+use Rattle.cause.proofs.Lowest.{lowest-is, any-lowest, absent-found}
+use Rattle.cause.proofs.Reached.{Known, decided-known}
+
+-- a number from 1 to 11 is answered as it is, any other as 18
+number-is : (k n : ℕ) → causeNumber k ≡ n → n ≤ 11 → (k ≡ n) × (1 ≤ k)
+unfolding causeNumber
+number-is k n h few = cases (eqb k 0) (leb k 11) refl refl h
+  where
+    cases : (x y : Bool) → eqb k 0 ≡ x → leb k 11 ≡ y → cond x 18 (cond y k 18) ≡ n → (k ≡ n) × (1 ≤ k)
+    cases true y a b h = absurd (omega arith)
+    cases false true a b h = let some = eqb-false k 0 a in (h, ⊎-elim (λ z. absurd (some z)) (λ z. z) (eq-zero-or-pos k))
+    cases false false a b h = absurd (omega arith)
+
+-- the fact about a stop that is not 0
+stop-known : {A : Type 0} (P : ℕ → Type 0) (a : Answer A) → StopsBy P a → 1 ≤ stopIn a → P (stopIn a)
+stop-known P (gives x) h some = absurd (omega arith)
+stop-known P (stops k) h some = h
+
+-- a part of S is past the end of memory
+past-end : (span a memory : ℕ) → present span a memory ≡ false → (0 < span) × (memory < a + span)
+unfolding present
+past-end span a memory h = cases (eqb span 0) (leb (a + span) memory) refl refl h
+  where
+    cases : (x y : Bool) → eqb span 0 ≡ x → leb (a + span) memory ≡ y → (x || y) ≡ false → (0 < span) × (memory < a + span)
+    cases true y e f h = absurd (let z : _≡_ {A = ℕ} 0 1 = cc in omega arith)
+    cases false true e f h = absurd (let z : _≡_ {A = ℕ} 0 1 = cc in omega arith)
+    cases false false e f h = let some = eqb-false span 0 e in (⊎-elim (λ z. absurd (some z)) (λ z. z) (eq-zero-or-pos span), leb-false (a + span) memory f)
+
+module _ (o : Order) (g : Registers) (p m : List ℕ) where
+  abbrev named : ℕ → Named
+  named k = namedFor k o g m p
+
+  -- 8 to 11 name words
+  named-words : (k : ℕ) → 8 ≤ k → k ≤ 11 → named k ≡ wordsRead (operandsRead o (g .float) (g .general) m)
+  unfolding namedFor
+  named-words k l u =
+      rw (ne-eqb k 5 (λ z. omega arith), ne-eqb k 6 (λ z. omega arith), ne-eqb k 7 (λ z. omega arith), le-leb 8 k l, le-leb k 11 u)
+
+  cell-named : (k : ℕ) → k ≡ 5 → legalOf o ≡ stops 5 → NamesCell o (named k)
+  unfolding namedFor
+  cell-named k e h = record { cell = firstCell (breaks o); named = rw (e); first = first-broken o 5 h }
+
+  module _ (op : Operation) (legal : legalOf o ≡ gives op) where
+    absent-named : (k : ℕ) → k ≡ 6 → present (spanOf op) (addressOf o (g .general)) (length m) ≡ false → NamesAddress (isAbsent (length m)) spanOf o (g .general) (named k)
+    unfolding namedFor lowestAbsent
+    absent-named k e h =
+        let z = past-end (spanOf op) (addressOf o (g .general)) (length m) h in
+        record {
+          operation = op;
+          legal = legal;
+          address = lowestAbsent o (g .general) (length m);
+          named = rw (e);
+          lowest = rw (legal) (lowest-is (isAbsent (length m)) (addressOf o (g .general)) (spanOf op) (absent-found (length m) (addressOf o (g .general)) (spanOf op) (z .0) (z .1)));
+        }
+
+    protected-named : (k : ℕ) → k ≡ 7 → anyProtected p (addressOf o (g .general)) (storedOf op) ≡ true → NamesAddress (isProtected p) storedOf o (g .general) (named k)
+    unfolding namedFor lowestProtected
+    protected-named k e h =
+        record {
+          operation = op;
+          legal = legal;
+          address = lowestProtected o (g .general) p;
+          named = rw (e);
+          lowest = rw (legal) (lowest-is (isProtected p) (addressOf o (g .general)) (storedOf op) (ltb-true _ _ (sym (any-lowest p (addressOf o (g .general)) (storedOf op)) ∙ h)));
+        }
+
+    -- the words of a legal order whose S is there
+    words-are : present (spanOf op) (addressOf o (g .general)) (length m) ≡ true → valuesOf (wordsRead (operandsRead o (g .float) (g .general) m)) ≡ wordsIn op o g m
+    unfolding wordsRead operandsRead
+    words-are there = rw (legal, there)
+
+    words-stop :
+        (k : ℕ) → 8 ≤ k → k ≤ 11 → present (spanOf op) (addressOf o (g .general)) (length m) ≡ true → effectOf op o g m ≡ stops k →
+        stopBy o (g .status .mask) (valuesOf (named k)) ≡ k
+    words-stop k l u there h =
+        ap (λ (n : Named). stopBy o (g .status .mask) (valuesOf n)) (named-words k l u)
+        ∙ ap (stopBy o (g .status .mask)) (words-are there)
+        ∙ sym (effect-stop op o legal g m)
+        ∙ ap stopIn h
+
+true-cause : (d p : List ℕ) (x : Machine) → TrueCause d p x (whyOf d p x)
+unfolding whyOf
+true-cause d p x =
+    let g = x .state .registers in
+    let o = nextOrder d x in
+    let m = x .memory in
+    let k = stopIn (verdictOf d p x) in
+    let known = stop-known (Known o g p m) (verdictOf d p x) (decided-known d p g (x .state .used) m (length (x .journal))) in
+    record {
+      number = ap causeNumber (sym (step-number d p x));
+      cell = λ h. let q = number-is k 5 h (omega arith) in cell-named o g p m k (q .0) (known (q .1) .illegal (q .0));
+      absent = λ h.
+          let q = number-is k 6 h (omega arith) in
+          let z = known (q .1) .absent (q .0) in
+          absent-named o g p m (z .0) (z .1) k (q .0) (z .2);
+      protected = λ h.
+          let q = number-is k 7 h (omega arith) in
+          let z = known (q .1) .protected (q .0) in
+          protected-named o g p m (z .0) (z .1) k (q .0) (z .2);
+      words = λ l u.
+          let q = number-is k (causeNumber k) refl u in
+          let low : 8 ≤ k = omega (arith, q .0) in
+          let high : k ≤ 11 = omega (arith, q .0) in
+          let z = known (q .1) .arithmetic low high in
+          words-stop o g p m (z .0) (z .1) k low high (z .2) (z .3) ∙ q .0;
+    }
+
+pub theorems : Theorems
+theorems = record { true-cause = true-cause; same-stop = same-stop }

@@ -1,0 +1,36 @@
+-- The machine on which an order is tried with nothing but its registers, its second operand and the mask. For the private functions of this crate.
+use Prim.Native.Nat.{ℕ, _/_, _%_, _≤_}
+use mathlib.Core.Path.{_≡_}
+use mathlib.Core.Bool.{false}
+use mathlib.Core.List.{List, [], _∷_}
+use lib.ListN.{replicate}
+use Rattle.hexfloat.specs.declared.word.Words.{Words}
+use Rattle.hexfloat.specs.Answer.{gives}
+use Rattle.orders.specs.declared.order.Operation.{Operation}
+use Rattle.orders.specs.declared.order.Order.{Order}
+use Rattle.orders.specs.Order.{legalOf, isHalt}
+use Rattle.machine.specs.declared.state.Registers.{Registers}
+use Rattle.machine.specs.Machine.{Machine, machine, registers, state}
+use Rattle.machine.specs.Status.{status}
+
+-- two words as storage has them
+abbrev pub halfwordsOf : Words → List ℕ
+halfwordsOf b = b .high / 65536 ∷ b .high % 65536 ∷ b .low / 65536 ∷ b .low % 65536 ∷ []
+
+-- the order alone, its S at address 0
+abbrev pub attemptDeck : Order → List ℕ
+attemptDeck o = o .code ∷ o .r1 ∷ o .r2 ∷ 0 ∷ []
+
+-- nothing is protected
+abbrev pub attemptProtect : List ℕ
+attemptProtect = replicate 4 0
+
+-- the second operand in storage, room for one record, and no step taken yet
+abbrev pub attemptMachine : Registers → Words → Machine
+attemptMachine g b = machine (state (registers (g .float) (g .general) (status 0 (g .status .mask) 0)) 0) (halfwordsOf b) (replicate 4 0)
+
+-- what the checks leave known where an order's storage is looked at
+pub record Accessible (op : Operation) (o : Order) (g : Registers) : Type 0 where
+  pub legal : legalOf o ≡ gives op
+  pub goes : isHalt (op .verb) ≡ false
+  pub mask : g .status .mask ≤ 1

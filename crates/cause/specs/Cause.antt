@@ -1,0 +1,55 @@
+-- Why the next step is stopped: a number, and what it names (document 02, Job 5).
+use Prim.Native.Nat.{ℕ}
+use mathlib.Core.List.{List, [], _∷_}
+use mathlib.Core.Bool.{Bool, cond, _&&_}
+use lib.Dec.{eqb, leb}
+use lib.ListN.{length}
+use Rattle.orders.specs.declared.order.Order.{Order}
+use Rattle.orders.specs.Order.{orderAt}
+use Rattle.machine.specs.declared.state.Registers.{Registers}
+use Rattle.machine.specs.Fetch.{operandsRead}
+use Rattle.machine.specs.Machine.{Machine}
+use Rattle.machine.specs.Step.{verdictOf}
+use Rattle.cause.specs.declared.naming.Cause.{Cause}
+use Rattle.cause.specs.declared.naming.Named.{Named}
+use Rattle.cause.specs.Arithmetic.{stopIn}
+use Rattle.cause.specs.Cell.{placeOf, firstCell, breaks}
+use Rattle.cause.specs.Storage.{lowestAbsent, lowestProtected}
+use Rattle.cause.specs.Words.{wordsRead}
+
+-- the values of what is named: of a cell its place among the four (code 0, r1 1, r2 2, at 3), of an address itself, of words all of them, leftmost first
+abbrev pub valuesOf : Named → List ℕ
+valuesOf Named.Nothing = []
+valuesOf (Named.Cell c) = placeOf c ∷ []
+valuesOf (Named.Address a) = a ∷ []
+valuesOf (Named.OneWord a) = a ∷ []
+valuesOf (Named.TwoWords a b) = a ∷ b ∷ []
+valuesOf (Named.FourWords a b c d) = a ∷ b ∷ c ∷ d ∷ []
+
+abbrev pub cause : ℕ → Named → Cause
+cause k n = record { number = k; named = n }
+
+-- the number k of a step's stop where it is one of 1 to 11; 18 where the step is stopped by none of 5 to 11: taken (0), HALT (12), a full journal (13)
+unfoldable pub causeNumber : ℕ → ℕ
+causeNumber k = cond (eqb k 0) 18 (cond (leb k 11) k 18)
+
+-- 5 names a cell, 6 and 7 an address, 8 to 11 words, the others nothing
+unfoldable pub namedFor : ℕ → Order → Registers → List ℕ → List ℕ → Named
+namedFor k o g m p =
+    cond (eqb k 5) (Named.Cell (firstCell (breaks o)))
+    (cond (eqb k 6) (Named.Address (lowestAbsent o (g .general) (length m)))
+    (cond (eqb k 7) (Named.Address (lowestProtected o (g .general) p))
+    (cond (leb 8 k && leb k 11) (wordsRead (operandsRead o (g .float) (g .general) m))
+    Named.Nothing)))
+
+-- an order that is stopped by k, or by nothing where k is 0
+abbrev pub explained : ℕ → Order → Registers → List ℕ → List ℕ → Cause
+explained k o g m p = cause (causeNumber k) (namedFor k o g m p)
+
+-- the order at the pointer
+abbrev pub nextOrder : List ℕ → Machine → Order
+nextOrder d x = orderAt d (x .state .registers .status .pointer)
+
+-- the next order, and the stop of the machine's own decision about it
+unfoldable pub whyOf : List ℕ → List ℕ → Machine → Cause
+whyOf d p x = explained (stopIn (verdictOf d p x)) (nextOrder d x) (x .state .registers) (x .memory) p

@@ -1,0 +1,61 @@
+-- What is named is a true cause (document 02, Job 5), for every deck d, protect list p and machine x. The proofs are in proofs/Theorems.antt.
+use Prim.Native.Nat.{ℕ, _≤_}
+use mathlib.Core.Path.{_≡_}
+use mathlib.Core.List.{List}
+use mathlib.Core.Bool.{Bool}
+use lib.ListN.{length}
+use Rattle.hexfloat.specs.Answer.{gives}
+use Rattle.orders.specs.declared.order.Operation.{Operation}
+use Rattle.orders.specs.declared.order.Order.{Order}
+use Rattle.orders.specs.Order.{legalOf, spanOf, storedOf}
+use Rattle.machine.specs.declared.state.Registers.{Registers}
+use Rattle.machine.specs.Address.{addressOf}
+use Rattle.machine.specs.Effect.{effectOf}
+use Rattle.machine.specs.Machine.{Machine}
+use Rattle.machine.specs.Operand.{floatOperand, secondOperand}
+use Rattle.machine.specs.Protect.{isProtected}
+use Rattle.machine.specs.Step.{stepped}
+use Rattle.cause.specs.declared.cell.Cell.{Cell}
+use Rattle.cause.specs.declared.naming.Cause.{Cause}
+use Rattle.cause.specs.declared.naming.Named.{Named}
+use Rattle.cause.specs.Arithmetic.{stopIn, stopBy}
+use Rattle.cause.specs.Cause.{valuesOf, causeNumber, nextOrder, whyOf}
+use Rattle.cause.specs.Cell.{breaks, IsFirstCell}
+use Rattle.cause.specs.Storage.{IsLowest, isAbsent}
+use Rattle.cause.specs.Words.{operandCount, wordsNamed}
+
+-- a cell is named, the first that breaks check 5
+pub record NamesCell (o : Order) (n : Named) : Type 0 where
+  pub cell : Cell
+  pub named : n ≡ Named.Cell cell
+  pub first : IsFirstCell (breaks o) cell
+
+-- an address is named, the lowest that a check refuses among the halfwords of S that it looks at
+pub record NamesAddress (refuses : ℕ → Bool) (halfwords : Operation → ℕ) (o : Order) (general : List ℕ) (n : Named) : Type 0 where
+  pub operation : Operation
+  pub legal : legalOf o ≡ gives operation
+  pub address : ℕ
+  pub named : n ≡ Named.Address address
+  pub lowest : IsLowest refuses (addressOf o general) (halfwords operation) address
+
+-- the number is the step's where that is 1 to 11, else 18; and what stands beside it is a cause of it
+pub record TrueCause (d p : List ℕ) (x : Machine) (w : Cause) : Type 0 where
+  pub number : w .number ≡ causeNumber (stepped d p x .stop)
+  pub cell : w .number ≡ 5 → NamesCell (nextOrder d x) (w .named)
+  pub absent : w .number ≡ 6 → NamesAddress (isAbsent (length (x .memory))) spanOf (nextOrder d x) (x .state .registers .general) (w .named)
+  pub protected : w .number ≡ 7 → NamesAddress (isProtected p) storedOf (nextOrder d x) (x .state .registers .general) (w .named)
+  pub words : 8 ≤ w .number → w .number ≤ 11 → stopBy (nextOrder d x) (x .state .registers .status .mask) (valuesOf (w .named)) ≡ w .number
+
+-- the words that a legal order's arithmetic reads in a machine with these registers and this memory
+abbrev pub wordsIn : Operation → Order → Registers → List ℕ → List ℕ
+wordsIn op o g m =
+    valuesOf (wordsNamed (operandCount (op .verb)) (op .width) (floatOperand (op .width) (g .float) (o .r1)) (secondOperand (op .place) (op .width) o (g .float) (g .general) m))
+
+-- what the arithmetic of a legal order answers in one machine, it answers in any other that agrees with it on the words and the mask
+abbrev pub SameStop : Operation → Order → Type 0
+SameStop op o =
+    (g h : Registers) (m n : List ℕ) → wordsIn op o g m ≡ wordsIn op o h n → g .status .mask ≡ h .status .mask → stopIn (effectOf op o g m) ≡ stopIn (effectOf op o h n)
+
+pub record Theorems : Type 0 where
+  pub true-cause : (d p : List ℕ) (x : Machine) → TrueCause d p x (whyOf d p x)
+  pub same-stop : (op : Operation) (o : Order) → legalOf o ≡ gives op → SameStop op o

@@ -1,0 +1,126 @@
+// The checks of a step in the table's order, each with its cause.
+use crate::attempt::attempt;
+use crate::cell::first_broken;
+use crate::naming::Cause;
+use crate::naming::Named;
+use crate::storage::lowest_absent;
+use crate::storage::lowest_protected;
+use crate::words::words_read;
+use machine::Fetched;
+use machine::Registers;
+use machine::State;
+use orders::Legality;
+use orders::Operation;
+use orders::Order;
+use orders::halts;
+use orders::legal;
+use orders::order_at;
+use orders::span;
+use orders::stored;
+ghost use mathlib.Core.Path.{_≡_};
+ghost use Prim.Native.Nat.{_≤_};
+ghost use Rattle.machine.specs.Decide.{accessed, judgedAt};
+ghost use Rattle.machine.specs.Machine.{machine};
+ghost use Rattle.cause.specs.Attempt.{Accessible};
+ghost use Rattle.cause.specs.Arithmetic.{stopIn};
+ghost use Rattle.cause.specs.Cause.{explained, whyOf};
+
+// Checks 6 and 7 of a legal order, and 8 to 11, for which it is tried.
+fn access(op: Operation, o: Order, registers: Registers, memory: &[u16], protect: &[u8]) -> Cause
+    requires { ⌜ Accessible op o registers ⌝ }
+    ensures { λ r. ⌜ r ≡ explained (stopIn (accessed o registers (now (protect .entry)) (now (memory .entry)) op)) o registers (now (memory .entry)) (now (protect .entry)) ⌝ }
+{
+    let float = registers.float;
+    let general = registers.general;
+    let at = machine::address(o, &general);
+    let fetched = machine::fetch(o, &float, &general, memory);
+    let Fetched::Read(q) = fetched else {
+        return Cause {
+            number: 6,
+            named: Named::Address(lowest_absent(at, span(op), memory.len())),
+        };
+    };
+    let n = stored(op);
+    let a = lowest_protected(protect, at, n);
+    if a < at + n {
+        return Cause {
+            number: 7,
+            named: Named::Address(a),
+        };
+    }
+    let number = attempt(o, q.second, registers);
+    if number == 0 {
+        return Cause {
+            number: 18,
+            named: Named::Nothing,
+        };
+    }
+    let named = words_read(q);
+    Cause { number, named }
+}
+
+// Checks 5, 12 and 13, and the others.
+fn examine(
+    o: Order,
+    registers: Registers,
+    used: u32,
+    memory: &[u16],
+    protect: &[u8],
+    journal: usize,
+) -> Cause
+    requires { ⌜ registers .status .mask ≤ 1 ⌝ }
+    ensures { λ r. ⌜ r ≡ explained (stopIn (judgedAt o registers used (now (protect .entry)) (now (memory .entry)) journal)) o registers (now (memory .entry)) (now (protect .entry)) ⌝ }
+{
+    let checked = legal(o);
+    let Legality::Legal(op) = checked else {
+        return Cause {
+            number: 5,
+            named: Named::Cell(first_broken(o)),
+        };
+    };
+    let verb = op.verb;
+    if halts(verb) {
+        return Cause {
+            number: 18,
+            named: Named::Nothing,
+        };
+    }
+    if used as usize >= journal / 4 {
+        return Cause {
+            number: 18,
+            named: Named::Nothing,
+        };
+    }
+    access(op, o, registers, memory, protect)
+}
+
+// Takes what a step takes.
+pub fn why(s: State, deck: &[u16], memory: &[u16], protect: &[u8], journal: &[u32]) -> Cause
+    ensures { λ r. ⌜ r ≡ whyOf (now (deck .entry)) (now (protect .entry)) (machine s (now (memory .entry)) (now (journal .entry))) ⌝ }
+{
+    let registers = s.registers;
+    let status = registers.status;
+    let k = machine::entry(
+        status,
+        s.used,
+        deck.len(),
+        protect.len(),
+        memory.len(),
+        journal.len(),
+    );
+    let number = machine::number(k);
+    if number != 0 {
+        return Cause {
+            number,
+            named: Named::Nothing,
+        };
+    }
+    if status.pointer as usize >= deck.len() / 4 {
+        return Cause {
+            number: 4,
+            named: Named::Nothing,
+        };
+    }
+    let o = order_at(deck, status.pointer);
+    examine(o, registers, s.used, memory, protect, journal.len())
+}
