@@ -1,0 +1,160 @@
+// Asks why the next step is stopped: each case is a deck text, a number of steps and a cell to change.
+//
+// A case is a line `LLLLL SSSSS PPPPP VVVVV` and a text of L bytes. S steps are run, cell P of the deck
+// becomes V (none where P is past the deck), and then the tool is asked. For each case a line is written
+// with the number and what it names.
+use cause::Cause;
+use cause::Cell;
+use cause::Named;
+use decktext::Reading;
+use trial::Input;
+use trial::Line;
+use trial::Number;
+
+fn complain() -> bool {
+    io::write_all(libc::STDERR_FILENO, b"why: a case is not of the form\n");
+    false
+}
+
+fn with_cell(t: Line, cell: Cell) -> Line {
+    match cell {
+        Cell::Code => trial::with_bytes(t, b"code "),
+        Cell::R1 => trial::with_bytes(t, b"r1 "),
+        Cell::R2 => trial::with_bytes(t, b"r2 "),
+        Cell::At => trial::with_bytes(t, b"at "),
+    }
+}
+
+fn with_word(t: Line, w: u32) -> Line {
+    trial::with_byte(trial::with_digits(t, 8, w), b' ')
+}
+
+fn with_words(t: Line, a: u32, b: u32) -> Line {
+    with_word(with_word(t, a), b)
+}
+
+fn with_named(t: Line, named: Named) -> Line {
+    match named {
+        Named::Nothing => t,
+        Named::Cell(cell) => with_cell(t, cell),
+        Named::Address(a) => trial::with_decimal(t, a),
+        Named::OneWord(a) => with_word(t, a),
+        Named::TwoWords(a, b) => with_words(t, a, b),
+        Named::FourWords(a, b, c, d) => with_words(with_words(t, a, b), c, d),
+    }
+}
+
+fn line_of(c: Cause) -> Line {
+    let named = c.named;
+    let t = trial::with_decimal(trial::empty(), c.number as u32);
+    trial::ended(with_named(t, named))
+}
+
+// What is done with a deck before the tool is asked.
+struct Task {
+    steps: u32,
+    place: u32,
+    value: u32,
+}
+
+fn change(deck: &mut [u16], place: u32, value: u32) {
+    let i = place as usize;
+    if i < deck.len() {
+        deck[i] = (value % 65536) as u16;
+    }
+}
+
+// The steps, the change and the question, on the deck of `count` orders.
+fn ask(
+    task: Task,
+    cells: &mut [u16],
+    count: u32,
+    memory: &mut [u16],
+    protect: &[u8],
+    journal: &mut [u32],
+) -> bool {
+    let n = count as usize * 4;
+    if cells.len() < n {
+        return false;
+    }
+    let deck = &mut cells[..n];
+    let ran = machine::run(machine::fresh(), deck, memory, protect, journal, task.steps);
+    change(deck, task.place, task.value);
+    let state = ran.state;
+    trial::write(line_of(cause::why(state, deck, memory, protect, journal)))
+}
+
+// On the desk's buffers.
+fn run_case(text: &[u8], task: Task) -> bool {
+    let mut cells = [0u16; 16384];
+    let mut memory = [0u16; 4096];
+    let mut protect = [0u8; 4096];
+    let mut journal = [0u32; 4096];
+    let reading = decktext::read(text, &mut cells, &mut memory, &mut protect);
+    let Reading::Taken(count) = reading else {
+        return complain();
+    };
+    ask(task, &mut cells, count, &mut memory, &protect, &mut journal)
+}
+
+// Reads the text of n bytes, and runs it.
+fn read_and_run(n: usize, text: &mut [u8], task: Task) -> bool {
+    if text.len() < n {
+        return complain();
+    }
+    let t = &mut text[..n];
+    let Input::Whole = trial::read_bytes(t) else {
+        return complain();
+    };
+    run_case(t, task)
+}
+
+// The four numbers of a case's first line, and its text.
+fn numbered_case(head: &[u8]) -> bool {
+    let Number::Value(n) = trial::number_at(10, head, 0, 5) else {
+        return complain();
+    };
+    let Number::Value(steps) = trial::number_at(10, head, 6, 5) else {
+        return complain();
+    };
+    let Number::Value(place) = trial::number_at(10, head, 12, 5) else {
+        return complain();
+    };
+    let Number::Value(value) = trial::number_at(10, head, 18, 5) else {
+        return complain();
+    };
+    let mut text = [0u8; 100000];
+    read_and_run(
+        n as usize,
+        &mut text,
+        Task {
+            steps,
+            place,
+            value,
+        },
+    )
+}
+
+// One case, and whether to go on.
+fn one_case() -> bool {
+    let mut head = [0u8; 23];
+    let input = trial::read_line(&mut head);
+    match input {
+        Input::End => {
+            return false;
+        }
+        Input::Malformed => {
+            return complain();
+        }
+        Input::Whole => {}
+    }
+    numbered_case(&head)
+}
+
+// A proved loop has to end: the turns count down from a number that no run uses up.
+fn main() {
+    let mut turns = u64::MAX;
+    while turns > 0 && one_case() {
+        turns -= 1;
+    }
+}
