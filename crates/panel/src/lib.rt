@@ -6,16 +6,20 @@ mod value;
 use decktext::Reading;
 use machine::State;
 use value::Answer;
+use value::Explanation;
 use value::back_by_value;
 use value::run_by_value;
 use value::step_by_value;
+use value::why_by_value;
 ghost use mathlib.Core.Path.{_≡_};
 ghost use Rattle.machine.specs.Fresh.{freshState};
 ghost use Rattle.machine.specs.Machine.{machine};
 ghost use Rattle.machine.specs.Step.{single, stepped, outcome};
 ghost use Rattle.machine.specs.Run.{ran};
 ghost use Rattle.machine.specs.Back.{backed};
+ghost use Rattle.cause.specs.Cause.{whyOf};
 ghost use Rattle.decktext.specs.Read.{buffers, readText};
+ghost use Rattle.panel.specs.Explain.{explanationOf};
 ghost use Rattle.panel.specs.Reply.{reply, replied};
 
 // The state of a machine that was just switched on.
@@ -103,4 +107,19 @@ pub extern "C" fn panel_read(
             value: line,
         },
     }
+}
+
+// Why the next step is stopped: the number, and what it names; nothing is written.
+#[no_mangle]
+pub extern "C" fn panel_why(
+    state: &State,
+    deck: &[u16],
+    memory: &[u16],
+    protect: &[u8],
+    journal: &[u32],
+) -> Explanation
+    ensures { λ r. ⌜ r
+        ≡ explanationOf (whyOf (now (deck .entry)) (now (protect .entry)) (machine (now (state .entry)) (now (memory .entry)) (now (journal .entry)))) ⌝ }
+{
+    why_by_value(*state, deck, memory, protect, journal)
 }
