@@ -2,18 +2,17 @@
 use Prim.Native.Nat.{ℕ, zero, suc, _+_, _*_, _/_, _%_, _≤_}
 use mathlib.Core.Path.{_≡_, refl, sym, ap, _∙_}
 use mathlib.Core.List.{List}
-use mathlib.Core.Bool.{true, false, _&&_, _||_}
+use mathlib.Core.Bool.{true, false, _&&_}
 use lib.Dec.{leb}
-use lib.ListN.{length}
 use native.Mathlib.Omega.{arith}
 use borrow.Author.Tests.{le-leb}
 use Rattle.hexfloat.specs.declared.word.Width.{Width}
 use Rattle.hexfloat.specs.Answer.{Answer, gives, stops, provided}
-use Rattle.hexfloat.specs.Word.{shortWords, longWords}
+use Rattle.hexfloat.specs.Word.{shortWords}
 use Rattle.orders.specs.declared.order.Operation.{Operation}
 use Rattle.orders.specs.declared.order.Order.{Order}
 use Rattle.orders.specs.declared.order.Place.{Place}
-use Rattle.orders.specs.Order.{operationOf, withinLimits, legalOf, spanOf, storedOf, isHalt}
+use Rattle.orders.specs.Order.{operationOf, withinLimits, legalOf, spanOf, storedOf}
 use Rattle.machine.specs.declared.state.Registers.{Registers}
 use Rattle.machine.specs.declared.verdict.Effect.{Effect}
 use Rattle.machine.specs.Address.{addressOf}

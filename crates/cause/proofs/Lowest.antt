@@ -19,7 +19,7 @@ module _ (refuses : ℕ → Bool) where
   pub lowest-here : (a n : ℕ) → refuses a ≡ true → lowest refuses a n ≡ a
   unfolding lowest
   lowest-here a zero h = refl
-  lowest-here a (suc n) h = rw (h)
+  lowest-here a (suc n) h = ap (λ (t : Bool). cond t a (lowest refuses (a + 1) n)) h
 
   pub lowest-on : (a n : ℕ) → 0 < n → refuses a ≡ false → lowest refuses a n ≡ lowest refuses (a + 1) (n - 1)
   unfolding lowest

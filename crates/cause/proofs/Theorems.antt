@@ -1,33 +1,32 @@
 -- What is named is a true cause.
 use Prim.Native.Nat.{ℕ, _+_, _<_, _≤_}
-use mathlib.Core.Path.{_≡_, refl, sym, ap, subst, _∙_}
+use mathlib.Core.Path.{_≡_, refl, sym, ap, _∙_}
 use mathlib.Core.List.{List}
-use mathlib.Core.Logic.{⊎-elim}
-use mathlib.Core.Bool.{Bool, true, false, cond, _&&_, _||_}
+use mathlib.Core.Logic.{_⊎_, inl, inr, ⊎-elim}
+use mathlib.Core.Bool.{Bool, true, false, cond, _||_}
 use lib.Dec.{eqb, leb}
 use lib.ListN.{length}
 use native.Mathlib.Nat.{eq-zero-or-pos}
 use native.Mathlib.Omega.{arith}
-use borrow.Author.Tests.{ltb-true, eqb-true, eqb-false, leb-true, leb-false, eq-eqb, ne-eqb, le-leb, lt-leb}
+use borrow.Author.Tests.{ltb-true, eqb-false, leb-true, leb-false, ne-eqb, le-leb, lt-leb}
 use Rattle.hexfloat.specs.Answer.{Answer, gives, stops}
 use Rattle.orders.specs.declared.order.Operation.{Operation}
 use Rattle.orders.specs.declared.order.Order.{Order}
 use Rattle.orders.specs.Order.{legalOf, spanOf, storedOf}
 use Rattle.machine.specs.declared.state.Registers.{Registers}
-use Rattle.machine.specs.declared.verdict.Effect.{Effect}
 use Rattle.machine.specs.Address.{addressOf}
 use Rattle.machine.specs.Check.{present}
 use Rattle.machine.specs.Fetch.{operandsRead}
-use Rattle.machine.specs.Machine.{Machine, committed}
+use Rattle.machine.specs.Machine.{Machine}
 use Rattle.machine.specs.Effect.{effectOf}
 use Rattle.machine.specs.Protect.{isProtected, anyProtected}
-use Rattle.machine.specs.Step.{outcome, onward, verdictOf, stepped}
+use Rattle.machine.specs.Step.{verdictOf}
 use Rattle.hexfloat.proofs.Answers.{StopsBy}
 use Rattle.cause.specs.declared.naming.Named.{Named}
 use Rattle.cause.specs.Arithmetic.{stopIn, stopBy}
 use Rattle.cause.specs.Cause.{valuesOf, causeNumber, namedFor, nextOrder, whyOf}
 use Rattle.cause.specs.Cell.{firstCell, breaks}
-use Rattle.cause.specs.Storage.{isAbsent, lowestAbsent, lowestProtected, spanIn, storedIn}
+use Rattle.cause.specs.Storage.{isAbsent, lowestAbsent, lowestProtected}
 use Rattle.cause.specs.Theorems.{NamesCell, NamesAddress, TrueCause, wordsIn, Theorems}
 use Rattle.cause.specs.Words.{wordsRead}
 use Rattle.cause.proofs.Arithmetic.{effect-stop, same-stop}
@@ -37,14 +36,20 @@ use Rattle.cause.proofs.Lowest.{lowest-is, any-lowest, absent-found}
 use Rattle.cause.proofs.Reached.{Known, decided-known}
 
 -- a number from 1 to 11 is answered as it is, any other as 18
-number-is : (k n : ℕ) → causeNumber k ≡ n → n ≤ 11 → (k ≡ n) × (1 ≤ k)
+number-or : (k : ℕ) → ((1 ≤ k) × (k ≤ 11) × (causeNumber k ≡ k)) ⊎ (causeNumber k ≡ 18)
 unfolding causeNumber
-number-is k n h few = cases (eqb k 0) (leb k 11) refl refl h
+number-or k = cases (eqb k 0) (leb k 11) refl refl
   where
-    cases : (x y : Bool) → eqb k 0 ≡ x → leb k 11 ≡ y → cond x 18 (cond y k 18) ≡ n → (k ≡ n) × (1 ≤ k)
-    cases true y a b h = absurd (omega arith)
-    cases false true a b h = let some = eqb-false k 0 a in (h, ⊎-elim (λ z. absurd (some z)) (λ z. z) (eq-zero-or-pos k))
-    cases false false a b h = absurd (omega arith)
+    cases : (x y : Bool) → eqb k 0 ≡ x → leb k 11 ≡ y → ((1 ≤ k) × (k ≤ 11) × (cond x 18 (cond y k 18) ≡ k)) ⊎ (cond x 18 (cond y k 18) ≡ 18)
+    cases true y a b = inr refl
+    cases false true a b = let some = eqb-false k 0 a in inl (⊎-elim (λ z. absurd (some z)) (λ z. z) (eq-zero-or-pos k), leb-true k 11 b, refl)
+    cases false false a b = inr refl
+
+number-is : (k n : ℕ) → causeNumber k ≡ n → n ≤ 11 → (k ≡ n) × (1 ≤ k)
+number-is k n h few = ⊎-elim (λ z. (sym (z .2) ∙ h, z .0)) (λ z. absurd (omega (arith, z))) (number-or k)
+
+number-listed : (k : ℕ) → (causeNumber k ≡ 18 → ⊥) → (1 ≤ causeNumber k) × (causeNumber k ≤ 11)
+number-listed k h = ⊎-elim (λ z. (omega (arith, z .0, z .2), omega (arith, z .1, z .2))) (λ z. absurd (h z)) (number-or k)
 
 -- the fact about a stop that is not 0
 stop-known : {A : Type 0} (P : ℕ → Type 0) (a : Answer A) → StopsBy P a → 1 ≤ stopIn a → P (stopIn a)
@@ -70,6 +75,28 @@ module _ (o : Order) (g : Registers) (p m : List ℕ) where
   unfolding namedFor
   named-words k l u =
       rw (ne-eqb k 5 (λ z. omega arith), ne-eqb k 6 (λ z. omega arith), ne-eqb k 7 (λ z. omega arith), le-leb 8 k l, le-leb k 11 u)
+
+  -- what is none of 5 to 11 names nothing
+  named-none : (k : ℕ) → (5 ≤ causeNumber k → causeNumber k ≤ 11 → ⊥) → named k ≡ Named.Nothing
+  unfolding namedFor causeNumber
+  named-none k h = cases (leb 5 k) (leb k 11) refl refl
+    where
+      cases : (x y : Bool) → leb 5 k ≡ x → leb k 11 ≡ y → named k ≡ Named.Nothing
+      cases false y a b =
+          let low = leb-false 5 k a in
+          rw (ne-eqb k 5 (λ z. omega arith), ne-eqb k 6 (λ z. omega arith), ne-eqb k 7 (λ z. omega arith), lt-leb 8 k (omega arith))
+      cases true false a b =
+          let high = leb-false k 11 b in
+          rw (
+            ne-eqb k 5 (λ z. omega arith),
+            ne-eqb k 6 (λ z. omega arith),
+            ne-eqb k 7 (λ z. omega arith),
+            le-leb 8 k (omega arith),
+            lt-leb k 11 high,
+          )
+      cases true true a b =
+          let low = leb-true 5 k a in
+          absurd (rw (ne-eqb k 0 (λ z. omega arith), b) at h low (leb-true k 11 b))
 
   cell-named : (k : ℕ) → k ≡ 5 → legalOf o ≡ stops 5 → NamesCell o (named k)
   unfolding namedFor
@@ -123,6 +150,8 @@ true-cause d p x =
     let known = stop-known (Known o g p m) (verdictOf d p x) (decided-known d p g (x .state .used) m (length (x .journal))) in
     record {
       number = ap causeNumber (sym (step-number d p x));
+      listed = number-listed k;
+      nothing = named-none o g p m k;
       cell = λ h. let q = number-is k 5 h (omega arith) in cell-named o g p m k (q .0) (known (q .1) .illegal (q .0));
       absent = λ h.
           let q = number-is k 6 h (omega arith) in

@@ -1,7 +1,7 @@
 -- Why the next step is stopped: a number, and what it names (document 02, Job 5).
 use Prim.Native.Nat.{ℕ}
 use mathlib.Core.List.{List, [], _∷_}
-use mathlib.Core.Bool.{Bool, cond, _&&_}
+use mathlib.Core.Bool.{cond, _&&_}
 use lib.Dec.{eqb, leb}
 use lib.ListN.{length}
 use Rattle.orders.specs.declared.order.Order.{Order}

@@ -38,9 +38,11 @@ pub record NamesAddress (refuses : ℕ → Bool) (halfwords : Operation → ℕ)
   pub named : n ≡ Named.Address address
   pub lowest : IsLowest refuses (addressOf o general) (halfwords operation) address
 
--- the number is the step's where that is 1 to 11, else 18; and what stands beside it is a cause of it
+-- the number is the step's where that is 1 to 11, else 18; what stands beside it is a cause of it; and beside 1 to 4 and 18 there is nothing
 pub record TrueCause (d p : List ℕ) (x : Machine) (w : Cause) : Type 0 where
   pub number : w .number ≡ causeNumber (stepped d p x .stop)
+  pub listed : (w .number ≡ 18 → ⊥) → (1 ≤ w .number) × (w .number ≤ 11)
+  pub nothing : (5 ≤ w .number → w .number ≤ 11 → ⊥) → w .named ≡ Named.Nothing
   pub cell : w .number ≡ 5 → NamesCell (nextOrder d x) (w .named)
   pub absent : w .number ≡ 6 → NamesAddress (isAbsent (length (x .memory))) spanOf (nextOrder d x) (x .state .registers .general) (w .named)
   pub protected : w .number ≡ 7 → NamesAddress (isProtected p) storedOf (nextOrder d x) (x .state .registers .general) (w .named)

@@ -23,7 +23,18 @@ ghost use Rattle.machine.specs.Decide.{accessed, judgedAt};
 ghost use Rattle.machine.specs.Machine.{machine};
 ghost use Rattle.cause.specs.Attempt.{Accessible};
 ghost use Rattle.cause.specs.Arithmetic.{stopIn};
-ghost use Rattle.cause.specs.Cause.{explained, whyOf};
+ghost use Rattle.cause.specs.declared.naming.Named.{Named};
+ghost use Rattle.cause.specs.Cause.{cause, explained, whyOf};
+
+// A number that names nothing.
+fn alone(number: u8) -> Cause
+    ensures { λ r. ⌜ r ≡ cause number Named.Nothing ⌝ }
+{
+    Cause {
+        number,
+        named: Named::Nothing,
+    }
+}
 
 // Checks 6 and 7 of a legal order, and 8 to 11, for which it is tried.
 fn access(op: Operation, o: Order, registers: Registers, memory: &[u16], protect: &[u8]) -> Cause
@@ -50,10 +61,7 @@ fn access(op: Operation, o: Order, registers: Registers, memory: &[u16], protect
     }
     let number = attempt(o, q.second, registers);
     if number == 0 {
-        return Cause {
-            number: 18,
-            named: Named::Nothing,
-        };
+        return alone(18); // taken
     }
     let named = words_read(q);
     Cause { number, named }
@@ -80,16 +88,10 @@ fn examine(
     };
     let verb = op.verb;
     if halts(verb) {
-        return Cause {
-            number: 18,
-            named: Named::Nothing,
-        };
+        return alone(18); // a step's 12
     }
     if used as usize >= journal / 4 {
-        return Cause {
-            number: 18,
-            named: Named::Nothing,
-        };
+        return alone(18); // a step's 13
     }
     access(op, o, registers, memory, protect)
 }
@@ -110,16 +112,10 @@ pub fn why(s: State, deck: &[u16], memory: &[u16], protect: &[u8], journal: &[u3
     );
     let number = machine::number(k);
     if number != 0 {
-        return Cause {
-            number,
-            named: Named::Nothing,
-        };
+        return alone(number);
     }
     if status.pointer as usize >= deck.len() / 4 {
-        return Cause {
-            number: 4,
-            named: Named::Nothing,
-        };
+        return alone(4);
     }
     let o = order_at(deck, status.pointer);
     examine(o, registers, s.used, memory, protect, journal.len())

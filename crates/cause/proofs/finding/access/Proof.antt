@@ -62,12 +62,15 @@ returns-2 c =
 attempt-requires : tie.Need-attempt-requires
 attempt-requires c κs = search needs
 
+alone-requires : tie.Need-alone-requires
+alone-requires c κs = search needs
+
 returns-3 : tie.Need-returns-3
 returns-3 c =
-    let x = c .before .before .before .before .before .before .before .before .before .before .before .before .before .before .before .before .before in
-    let e = sym (ap saysFetched (c .before .before .before .before .before .before .fetched .given .1)) ∙ c .before .before .before .before .before .before .before .before .fetch .ensures in
-    let free = rw (c .before .before .before .lowest-protected .ensures, c .before .before .before .before .stored .ensures, c .before .before .before .before .before .before .before .before .before .before .before .address .ensures) at (c .before .before .if1 .left) in
-    sym (explain-taken (x .args .op) (x .args .o) (x .args .registers) (x .args .protect .now) (x .args .memory .now) (x .pre) _ e free (sym (c .before .attempt .ensures) ∙ c .if2 .taken))
+    let x = c .before .before .before .before .before .before .before .before .before .before .before .before .before .before .before .before .before .before in
+    let e = sym (ap saysFetched (c .before .before .before .before .before .before .before .fetched .given .1)) ∙ c .before .before .before .before .before .before .before .before .before .fetch .ensures in
+    let free = rw (c .before .before .before .before .lowest-protected .ensures, c .before .before .before .before .before .stored .ensures, c .before .before .before .before .before .before .before .before .before .before .before .before .address .ensures) at (c .before .before .before .if1 .left) in
+    c .alone .ensures ∙ sym (explain-taken (x .args .op) (x .args .o) (x .args .registers) (x .args .protect .now) (x .args .memory .now) (x .pre) _ e free (sym (c .before .before .attempt .ensures) ∙ c .before .if2 .taken))
 
 words-read-requires : tie.Need-words-read-requires
 words-read-requires c κs = search needs
@@ -94,6 +97,7 @@ access-spec =
     add-if1
     returns-2
     attempt-requires
+    alone-requires
     returns-3
     words-read-requires
     returns-4)

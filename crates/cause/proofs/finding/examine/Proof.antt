@@ -30,16 +30,22 @@ returns c = rw (c .first-broken .ensures, ← c .before .before .before .legal .
 halts-requires : tie.Need-halts-requires
 halts-requires c κs = search needs
 
+alone-requires : tie.Need-alone-requires
+alone-requires c κs = search needs
+
 returns-2 : tie.Need-returns-2
 unfolding judged causeNumber namedFor
-returns-2 c = rw (← c .before .before .before .before .before .legal .ensures, c .before .before .before .checked .given .1, ← c .before .halts .ensures, c .if1 .taken)
+returns-2 c = rw (c .alone .ensures, ← c .before .before .before .before .before .before .legal .ensures, c .before .before .before .before .checked .given .1, ← c .before .before .halts .ensures, c .before .if1 .taken)
+
+alone-requires-2 : tie.Need-alone-requires-2
+alone-requires-2 c κs = search needs
 
 returns-3 : tie.Need-returns-3
 unfolding judged causeNumber namedFor
 returns-3 c =
-    let a = c .before .before .before .before .before .before .before .before .before .args in
-    let full = le-ltb (a .used) (a .journal / 4) (omega (arith, c .if2 .taken)) in
-    rw (← c .before .before .before .before .before .before .legal .ensures, c .before .before .before .before .checked .given .1, ← c .before .before .halts .ensures, c .before .if1 .left, full)
+    let a = c .before .before .before .before .before .before .before .before .before .before .args in
+    let full = le-ltb (a .used) (a .journal / 4) (omega (arith, c .before .if2 .taken)) in
+    rw (c .alone2 .ensures, ← c .before .before .before .before .before .before .before .legal .ensures, c .before .before .before .before .before .checked .given .1, ← c .before .before .before .halts .ensures, c .before .before .if1 .left, full)
 
 access-requires : tie.Need-access-requires
 access-requires c κs =
@@ -66,7 +72,9 @@ examine-spec =
     first-broken-requires
     returns
     halts-requires
+    alone-requires
     returns-2
+    alone-requires-2
     returns-3
     access-requires
     returns-4)

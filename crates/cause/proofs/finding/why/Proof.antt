@@ -20,24 +20,30 @@ entry-requires c κs = search needs
 number-requires : tie.Need-number-requires
 number-requires c κs = search needs
 
+alone-requires : tie.Need-alone-requires
+alone-requires c κs = search needs
+
 returns : tie.Need-returns
 unfolding whyOf decided
 returns c =
-    let n = c .before .number in
-    let a = c .before .before .before .before .before .before .before .before .before .args in
+    let n = c .before .before .number in
+    let a = c .before .before .before .before .before .before .before .before .before .before .args in
     let three = entry-number (length (a .protect .now)) (a .s .registers .status) (a .s .used) (length (a .memory .now)) (length (a .journal .now)) (length (a .deck .now)) in
-    let few : n .result ≤ 4 = omega (arith, n .ensures, c .before .before .entry .ensures, three) in
-    rw (← c .before .before .entry .ensures, ← n .ensures, ne-eqb (n .result) 0 (c .if1 .taken)) (sym (explain-early (n .result) _ _ _ _ (c .if1 .taken) few))
+    let few : n .result ≤ 4 = omega (arith, n .ensures, c .before .before .before .entry .ensures, three) in
+    rw (c .alone .ensures, ← c .before .before .before .entry .ensures, ← n .ensures, ne-eqb (n .result) 0 (c .before .if1 .taken)) (sym (explain-early (n .result) _ _ _ _ (c .before .if1 .taken) few))
 
 cast-if2 : tie.Need-cast-if2
 cast-if2 c = search needs
 
+alone-requires-2 : tie.Need-alone-requires-2
+alone-requires-2 c κs = search needs
+
 returns-2 : tie.Need-returns-2
 unfolding whyOf decided causeNumber namedFor
 returns-2 c =
-    let checks = c .before .before .before .before .entry in
-    let passes = eq-eqb (numberOf (checks .result)) 0 (sym (c .before .before .before .number .ensures) ∙ c .before .before .if1 .left) in
-    rw (← checks .ensures, passes, le-ltb _ _ (c .if2 .taken))
+    let checks = c .before .before .before .before .before .entry in
+    let passes = eq-eqb (numberOf (checks .result)) 0 (sym (c .before .before .before .before .number .ensures) ∙ c .before .before .before .if1 .left) in
+    rw (c .alone2 .ensures, ← checks .ensures, passes, le-ltb _ _ (c .before .if2 .taken))
 
 order-at-requires : tie.Need-order-at-requires
 order-at-requires c κs = search needs
@@ -60,8 +66,10 @@ why-spec =
     (tie.spec
     entry-requires
     number-requires
+    alone-requires
     returns
     cast-if2
+    alone-requires-2
     returns-2
     order-at-requires
     examine-requires

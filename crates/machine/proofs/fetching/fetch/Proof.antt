@@ -1,11 +1,9 @@
 -- `machine::fetching::fetch` meets its contract: checks 5 and 6, then both operands.
 -- Assumes nothing.
 use borrow.Author.Tests.{not-true, not-false}
-use native.Mathlib.Omega.{arith}
-use mathlib.Core.Path.{_≡_, sym, ap, _∙_}
+use mathlib.Core.Path.{sym, ap, _∙_}
 use borrow.Author.Needs.{needs}
-use Rattle.hexfloat.specs.Answer.{gives}
-use Rattle.orders.specs.Order.{saysLegality, legalOf}
+use Rattle.orders.specs.Order.{saysLegality}
 use Rattle.machine.specs.Fetch.{operandsRead}
 use Rattle.machine.proofs.Rows.{legal-passed}
 use Rattle.machine.proofs.fetching.fetch.Statement.{statement}
