@@ -24,6 +24,13 @@ struct Answer {
 }
 
 #[repr(C)]
+struct Cause {
+    number: u32,
+    count: u32,
+    values: [u32; 4],
+}
+
+#[repr(C)]
 #[derive(Clone, Copy)]
 pub struct Lent {
     registers: Registers,
@@ -64,6 +71,17 @@ extern "C" {
         journal: *mut u32,
         journal_len: usize,
     ) -> u8;
+    fn panel_why(
+        state: *const Lent,
+        deck: *const u16,
+        deck_len: usize,
+        memory: *const u16,
+        memory_len: usize,
+        protect: *const u8,
+        protect_len: usize,
+        journal: *const u32,
+        journal_len: usize,
+    ) -> Cause;
     fn panel_read(
         text: *const u8,
         text_len: usize,
@@ -151,6 +169,26 @@ pub fn back(s: &mut Lent, memory: &mut [u16], protect: &[u8], journal: &mut [u32
             journal.len(),
         )
     }
+}
+
+/// A number and what it names; values past the count are 0.
+pub fn why(s: &Lent, deck: &[u16], memory: &[u16], protect: &[u8], journal: &[u32]) -> (u8, Vec<u32>) {
+    let c = unsafe {
+        panel_why(
+            s,
+            deck.as_ptr(),
+            deck.len(),
+            memory.as_ptr(),
+            memory.len(),
+            protect.as_ptr(),
+            protect.len(),
+            journal.as_ptr(),
+            journal.len(),
+        )
+    };
+    let (values, rest) = c.values.split_at(c.count as usize);
+    assert!(rest.iter().all(|v| *v == 0));
+    (c.number as u8, values.to_vec())
 }
 
 #[inline]

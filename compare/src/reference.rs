@@ -473,6 +473,48 @@ fn decide(s: &State, b: &Buffers) -> Result<Effect, u8> {
     effect(s, cells, &b.memory)
 }
 
+/// Which of code, r1, r2 and at, 0 to 3, is the first that breaks check 5.
+fn broken_cell(cells: [u16; 4]) -> u32 {
+    match form(cells[0]) {
+        None => 0,
+        Some((r1, _, _, _)) if cells[1] > r1 => 1,
+        Some((_, r2, _, _)) if cells[2] > r2 => 2,
+        Some(_) => 3,
+    }
+}
+
+/// The words of the operands that an order with a stop from 8 to 11 reads.
+fn operand_words(s: &State, cells: [u16; 4], memory: &[u16]) -> Vec<u32> {
+    let [code, r1, r2, at] = cells.map(usize::from);
+    let words = if matches!(code, 13 | 14 | 27..=30 | 33 | 34) { 2 } else { 1 };
+    let register = |r: usize| (0..words).map(move |k| s.float[(r + k) % 8]);
+    let storage = (0..words).map(|k| word(memory, at + 2 * k));
+    match code {
+        9 => register(r2).collect(),
+        _ if form(cells[0]).unwrap().2 => register(r1).chain(storage).collect(),
+        _ => register(r1).chain(register(r2)).collect(),
+    }
+}
+
+/// Why the next step is stopped (document 02, Job 5): a number, and what it names.
+pub fn why(s: &State, b: &Buffers) -> (u8, Vec<u32>) {
+    let number = match decide(s, b) {
+        Ok(_) | Err(12 | 13) => return (18, vec![]),
+        Err(n @ 1..=4) => return (n, vec![]),
+        Err(n) => n,
+    };
+    let p = 4 * s.pointer as usize;
+    let cells = [b.deck[p], b.deck[p + 1], b.deck[p + 2], b.deck[p + 3]];
+    let addresses = || (cells[3] as usize..).take(form(cells[0]).unwrap().3);
+    let names = match number {
+        5 => vec![broken_cell(cells)],
+        6 => vec![addresses().find(|a| *a >= b.memory.len()).unwrap() as u32],
+        7 => vec![addresses().find(|a| b.protect[*a] != 0).unwrap() as u32],
+        _ => operand_words(s, cells, &b.memory),
+    };
+    (number, names)
+}
+
 fn old(s: &State, memory: &[u16], c: Change) -> (u32, u32, u32, u32) {
     match c {
         Change::Nothing => (0, 0, 0, 0),

@@ -35,6 +35,13 @@ typedef struct {
     uint32_t value;  /* a run's steps taken; a reading's order count, or the line of its refusal */
 } panel_answer;
 
+/* What panel_why answers. Values past the count are 0. */
+typedef struct {
+    uint32_t number;    /* the stop that panel_step would answer if it is 1 to 11, else 18 */
+    uint32_t count;     /* how many values it names */
+    uint32_t values[4]; /* 5: the cell, 0 code, 1 r1, 2 r2, 3 at; 6, 7: the address; 8 to 11: the operands' words */
+} panel_cause;
+
 /* Makes the state fresh. Returns nothing. */
 void panel_fresh(panel_state *state);
 
@@ -53,6 +60,15 @@ panel_answer panel_run(panel_state *state, const uint16_t *deck, size_t deck_cel
 /* Takes the last step back. Returns 0, or 2, 3, 14 or 15; a refusal leaves everything as it was. */
 uint8_t panel_back(panel_state *state, uint16_t *memory, size_t memory_halfwords, const uint8_t *protect,
                    size_t protect_bytes, uint32_t *journal, size_t journal_words);
+
+/* Why panel_step would be stopped; it takes what a step takes, and writes nothing. The number is 1 to 11 as for a step:
+ * 5 with the first of code, r1, r2 and at that breaks the check, 6 with the lowest absent address of the storage operand,
+ * 7 with its lowest protected one, 8 to 11 with the words of the operands that the order reads, the first operand's before
+ * the second's: two for a short order, four for a long one, R r2's alone for CVFX. It is 18 where none of these stops the
+ * step: it would be taken, or is a HALT (12), or the journal is full (13). */
+panel_cause panel_why(const panel_state *state, const uint16_t *deck, size_t deck_cells, const uint16_t *memory,
+                      size_t memory_halfwords, const uint8_t *protect, size_t protect_bytes, const uint32_t *journal,
+                      size_t journal_words);
 
 /* Reads a deck text into cells, memory and protect list. The number is 0 and the value the order count, or the number is
  * 16 or 17 and the value the line; a refused text writes nothing. */

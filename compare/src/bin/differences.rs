@@ -103,7 +103,7 @@ fn other(r: &mut Random, number: u64) -> u64 {
     }
 }
 
-/// Calls on one machine until the budget of this machine is spent; how many were made.
+/// Calls on one machine until the budget of this machine is spent, each with the question why before it; how many were made.
 fn machine(r: &mut Random) -> u64 {
     let mut b = buffers(r);
     let mut s = state(r);
@@ -125,6 +125,7 @@ fn machine(r: &mut Random) -> u64 {
             let at = r.below(b.journal.len() as u64) as usize;
             b.journal[at] = r.next() as u32 >> r.below(32);
         }
+        ask(s, &b);
         let mut lent = Lent::from(s);
         let mut memory = Guarded::new(&b.memory, 0xA5A5);
         let mut journal = Guarded::new(&b.journal, 0xA5A5_A5A5);
@@ -153,6 +154,17 @@ fn machine(r: &mut Random) -> u64 {
         assert!(same, "call {k}: {ours:?} here, {theirs:?} in the panel library\n{s:?}\n{:?}\n{b:?}", State::from(lent));
     }
     calls
+}
+
+/// Why the next step is stopped, asked of both; nothing is written.
+fn ask(s: State, b: &Buffers) {
+    let lent = Lent::from(s);
+    let mut memory = Guarded::new(&b.memory, 0xA5A5);
+    let mut journal = Guarded::new(&b.journal, 0xA5A5_A5A5);
+    let ours = reference::why(&s, b);
+    let theirs = panel::why(&lent, &b.deck, memory.inner(), &b.protect, journal.inner());
+    let same = ours == theirs && State::from(lent) == s && memory.is(&b.memory) && journal.is(&b.journal);
+    assert!(same, "why: {ours:?} here, {theirs:?} in the panel library\n{s:?}\n{b:?}");
 }
 
 /// The tuned run is held to the reference too.
@@ -235,5 +247,5 @@ fn main() {
             calls += machine(&mut r);
         }
     }
-    println!("{calls} calls, {texts} of them texts: 0 differences (seed {seed})");
+    println!("{calls} calls, {texts} of them texts, and before each other one the question why: 0 differences (seed {seed})");
 }

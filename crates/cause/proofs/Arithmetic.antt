@@ -23,7 +23,7 @@ use Rattle.machine.specs.Operand.{floatOperand, secondOperand}
 use Rattle.cause.specs.Arithmetic.{stopIn, arithmeticStop, stopByRow, stopBy}
 use Rattle.cause.specs.Cause.{valuesOf}
 use Rattle.cause.specs.Theorems.{wordsIn, SameStop}
-use Rattle.cause.specs.Words.{bothNamed, operandCount, wordsNamed}
+use Rattle.cause.specs.Words.{bothNamed, arithmeticOperands, wordsNamed}
 
 -- where a result is put changes no stop
 mapped-stop : {A B : Type 0} (f : A → B) (a : Answer A) → stopIn (mapped f a) ≡ stopIn a
@@ -38,7 +38,7 @@ two-named (suc (suc n)) w a b h = refl
 
 performed-stop :
     (v : Verb) (w : Width) (o : Order) (g : Registers) (a : ℕ) (b : Words) →
-    stopIn (performed v w o g a b) ≡ arithmeticStop v w (o .r1) (g .status .mask) (valuesOf (wordsNamed (operandCount v) w (floatOperand w (g .float) (o .r1)) b))
+    stopIn (performed v w o g a b) ≡ arithmeticStop v w (o .r1) (g .status .mask) (valuesOf (wordsNamed (arithmeticOperands v) w (floatOperand w (g .float) (o .r1)) b))
 unfolding performed arithmeticStop wordsNamed quotientWords summedWords productWords
 performed-stop Verb.Load w o g a b = refl
 performed-stop Verb.Complement w o g a b = refl

@@ -22,7 +22,7 @@ use Rattle.cause.specs.Arithmetic.{stopIn, stopBy}
 use Rattle.cause.specs.Cause.{valuesOf, causeNumber, nextOrder, whyOf}
 use Rattle.cause.specs.Cell.{breaks, IsFirstCell}
 use Rattle.cause.specs.Storage.{IsLowest, isAbsent}
-use Rattle.cause.specs.Words.{operandCount, wordsNamed}
+use Rattle.cause.specs.Words.{arithmeticOperands, wordsNamed}
 
 -- a cell is named, the first that breaks check 5
 pub record NamesCell (o : Order) (n : Named) : Type 0 where
@@ -51,7 +51,7 @@ pub record TrueCause (d p : List ℕ) (x : Machine) (w : Cause) : Type 0 where
 -- the words that a legal order's arithmetic reads in a machine with these registers and this memory
 abbrev pub wordsIn : Operation → Order → Registers → List ℕ → List ℕ
 wordsIn op o g m =
-    valuesOf (wordsNamed (operandCount (op .verb)) (op .width) (floatOperand (op .width) (g .float) (o .r1)) (secondOperand (op .place) (op .width) o (g .float) (g .general) m))
+    valuesOf (wordsNamed (arithmeticOperands (op .verb)) (op .width) (floatOperand (op .width) (g .float) (o .r1)) (secondOperand (op .place) (op .width) o (g .float) (g .general) m))
 
 -- what the arithmetic of a legal order answers in one machine, it answers in any other that agrees with it on the words and the mask
 abbrev pub SameStop : Operation → Order → Type 0

@@ -12,23 +12,23 @@ abbrev pub bothNamed : Width → Words → Words → Named
 bothNamed Width.Short a b = Named.TwoWords (a .high) (b .high)
 bothNamed Width.Long a b = Named.FourWords (a .high) (a .low) (b .high) (b .low)
 
--- how many operands the arithmetic reads: CVFX R r2 alone, divides, sums, differences and products two; no other order has a stop from 8 to 11
-abbrev pub operandCount : Verb → ℕ
-operandCount Verb.Load = 0
-operandCount Verb.Complement = 0
-operandCount Verb.Compare = 0
-operandCount Verb.Fix = 1
-operandCount Verb.Float = 0
-operandCount Verb.Divide = 2
-operandCount Verb.Store = 0
-operandCount Verb.LoadGeneral = 0
-operandCount Verb.StoreGeneral = 0
-operandCount Verb.SetMask = 0
-operandCount Verb.Jump = 0
-operandCount Verb.CountDown = 0
-operandCount Verb.Halt = 0
-operandCount (Verb.Sum s) = 2
-operandCount Verb.Multiply = 2
+-- how many operands the arithmetic with stops from 8 to 11 reads: CVFX R r2 alone, divides, sums, differences and products two; other orders have none
+abbrev pub arithmeticOperands : Verb → ℕ
+arithmeticOperands Verb.Load = 0
+arithmeticOperands Verb.Complement = 0
+arithmeticOperands Verb.Compare = 0
+arithmeticOperands Verb.Fix = 1
+arithmeticOperands Verb.Float = 0
+arithmeticOperands Verb.Divide = 2
+arithmeticOperands Verb.Store = 0
+arithmeticOperands Verb.LoadGeneral = 0
+arithmeticOperands Verb.StoreGeneral = 0
+arithmeticOperands Verb.SetMask = 0
+arithmeticOperands Verb.Jump = 0
+arithmeticOperands Verb.CountDown = 0
+arithmeticOperands Verb.Halt = 0
+arithmeticOperands (Verb.Sum s) = 2
+arithmeticOperands Verb.Multiply = 2
 
 -- one operand is the second
 unfoldable pub wordsNamed : ℕ → Width → Words → Words → Named
@@ -38,5 +38,5 @@ wordsNamed (suc (suc n)) w a b = bothNamed w a b
 
 -- an order that has no operands to read names none
 unfoldable pub wordsRead : Answer Operands → Named
-wordsRead (gives q) = wordsNamed (operandCount (q .operation .verb)) (q .operation .width) (q .first) (q .second)
+wordsRead (gives q) = wordsNamed (arithmeticOperands (q .operation .verb)) (q .operation .width) (q .first) (q .second)
 wordsRead (stops k) = Named.Nothing

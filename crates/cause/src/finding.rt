@@ -96,7 +96,7 @@ fn examine(
     access(op, o, registers, memory, protect)
 }
 
-// Takes what a step takes.
+// Why the next step is stopped. Takes what a step takes, and writes nothing.
 pub fn why(s: State, deck: &[u16], memory: &[u16], protect: &[u8], journal: &[u32]) -> Cause
     ensures { λ r. ⌜ r ≡ whyOf (now (deck .entry)) (now (protect .entry)) (machine s (now (memory .entry)) (now (journal .entry))) ⌝ }
 {

@@ -6,7 +6,7 @@ use machine::Operands;
 use orders::Verb;
 ghost use mathlib.Core.Path.{_≡_};
 ghost use Rattle.hexfloat.specs.Answer.{gives};
-ghost use Rattle.cause.specs.Words.{bothNamed, operandCount, wordsNamed, wordsRead};
+ghost use Rattle.cause.specs.Words.{bothNamed, arithmeticOperands, wordsNamed, wordsRead};
 
 // Both operands, the first one's words before the second's.
 fn both(width: Width, a: Words, b: Words) -> Named
@@ -18,9 +18,9 @@ fn both(width: Width, a: Words, b: Words) -> Named
     }
 }
 
-// How many operands the arithmetic of a verb reads, none where it cannot stop.
-fn operand_count(verb: Verb) -> u32
-    ensures { λ r. ⌜ r ≡ operandCount verb ⌝ }
+// How many operands the arithmetic with stops from 8 to 11 reads.
+fn arithmetic_operands(verb: Verb) -> u32
+    ensures { λ r. ⌜ r ≡ arithmeticOperands verb ⌝ }
 {
     match verb {
         Verb::Load => 0,
@@ -61,5 +61,5 @@ pub fn words_read(q: Operands) -> Named
     let operation = q.operation;
     let verb = operation.verb;
     let width = operation.width;
-    words_named(operand_count(verb), width, q.first, q.second)
+    words_named(arithmetic_operands(verb), width, q.first, q.second)
 }

@@ -5,15 +5,15 @@ use Rattle.cause.specs.Words.{wordsRead}
 use Rattle.cause.proofs.words.words_read.Statement.{statement}
 use Rattle.cause.proofs.words.words_read.Tie as tie
 
-operand-count-requires : tie.Need-operand-count-requires
-operand-count-requires c κs = search needs
+arithmetic-operands-requires : tie.Need-arithmetic-operands-requires
+arithmetic-operands-requires c κs = search needs
 
 words-named-requires : tie.Need-words-named-requires
 words-named-requires c κs = search needs
 
 returns : tie.Need-returns
 unfolding wordsRead
-returns c = rw (c .words-named .ensures, c .before .operand-count .ensures)
+returns c = rw (c .words-named .ensures, c .before .arithmetic-operands .ensures)
 
 pub words-read-spec : {M : Type 1} → statement M
-words-read-spec = tie.close (tie.spec operand-count-requires words-named-requires returns)
+words-read-spec = tie.close (tie.spec arithmetic-operands-requires words-named-requires returns)
