@@ -5,7 +5,7 @@ use mathlib.Core.List.{List, [], _∷_}
 use mathlib.Core.Bool.{Bool, true, false, cond, not}
 use lib.ListN.{length}
 use native.Mathlib.Omega.{arith}
-use borrow.Author.Tests.{ne-eqb, le-leb, lt-leb, lt-ltb, le-ltb}
+use borrow.Author.Tests.{lt-ltb, le-ltb}
 use mathlib.Core.Logic.{inl, inr}
 use types.Run.{OneOf}
 use denote.Enum.Declared.{tagOf}
@@ -24,7 +24,7 @@ use Rattle.machine.specs.Fetch.{operandsOf, operandsRead, saysFetched}
 use Rattle.machine.specs.Protect.{isProtected}
 use Rattle.machine.specs.Step.{stepped}
 use Rattle.machine.proofs.fetching.Fetched as fetched-type
-use Rattle.hexfloat.proofs.Answers.{gives-inj, never, StopsBy}
+use Rattle.hexfloat.proofs.Answers.{gives-inj, never}
 use Rattle.cause.specs.declared.naming.Cause.{Cause}
 use Rattle.cause.specs.declared.naming.Named.{Named}
 use Rattle.cause.specs.Arithmetic.{stopIn}
@@ -34,7 +34,8 @@ use Rattle.cause.specs.Storage.{lowest, isAbsent, lowestAbsent, lowestPr
 use Rattle.cause.specs.Words.{wordsRead}
 use Rattle.cause.proofs.Attempted.{attempt-stop}
 use Rattle.cause.proofs.Lowest.{any-lowest}
-use Rattle.cause.proofs.Reached.{Own, own-by}
+use Rattle.cause.proofs.Numbers.{number-same, named-words, named-none}
+use Rattle.cause.proofs.Reached.{stop-known, Own, own-by}
 
 module _ (op : Operation) (o : Order) (g : Registers) (m : List ℕ) (legal : legalOf o ≡ gives op) where
   abbrev there : Bool
@@ -67,11 +68,6 @@ module _ (op : Operation) (o : Order) (g : Registers) (m : List ℕ) (legal : le
           (there ≡ true) × (q ≡ operandsOf o (g .float) (g .general) m op)
       cases true e z = (e, gives-inj z)
       cases false e z = never (sym z)
-
--- the number of an answer that stops by one of the arithmetic's
-stopped : {A : Type 0} (a : Answer A) → StopsBy Own a → (stopIn a ≡ 0 → ⊥) → Own (stopIn a)
-stopped (gives x) n z = absurd (z refl)
-stopped (stops k) n z = n
 
 -- of an order that passed checks 5, 12 and 13
 module _ (op : Operation) (o : Order) (g : Registers) (p m : List ℕ) (h : Accessible op o g) where
@@ -107,33 +103,21 @@ module _ (op : Operation) (o : Order) (g : Registers) (p m : List ℕ) (h : Acce
       unfolding causeNumber namedFor
       explain-taken taken = rw (reached, any-lowest p at (storedOf op), le-ltb _ _ free, sym tried ∙ taken)
 
-      pub explain-words : (number ≡ 0 → ⊥) → answer ≡ cause number (wordsRead (gives q))
-      unfolding causeNumber namedFor
+      pub explain-words : 1 ≤ number → answer ≡ cause number (wordsRead (gives q))
       explain-words some =
-          let n = stopped (effectOf op o g m) (own-by op o g m (h .goes)) (λ z. some (tried ∙ z)) in
+          let n = stop-known Own (effectOf op o g m) (own-by op o g m (h .goes)) (omega (arith, tried)) in
+          let low : 8 ≤ number = omega (arith, tried, n .some) in
+          let high : number ≤ 11 = omega (arith, tried, n .most) in
           rw (
             reached,
             any-lowest p at (storedOf op),
             le-ltb _ _ free,
             ← tried,
-            ne-eqb number 0 some,
-            le-leb number 11 (omega (arith, tried, n .most)),
-            ne-eqb number 5 (λ z. omega (arith, tried, n .some)),
-            ne-eqb number 6 (λ z. omega (arith, tried, n .some)),
-            ne-eqb number 7 (λ z. omega (arith, tried, n .some)),
-            le-leb 8 number (omega (arith, tried, n .some)),
+            number-same number (omega arith) high,
+            named-words number o g m p low high,
             operands,
           )
 
 -- a stop before the order is looked at names nothing
-pub explain-early : (k : ℕ) (o : Order) (g : Registers) (m p : List ℕ) → (k ≡ 0 → ⊥) → k ≤ 4 → explained k o g m p ≡ cause k Named.Nothing
-unfolding causeNumber namedFor
-explain-early k o g m p some few =
-    rw (
-      ne-eqb k 0 some,
-      le-leb k 11 (omega arith),
-      ne-eqb k 5 (λ z. omega arith),
-      ne-eqb k 6 (λ z. omega arith),
-      ne-eqb k 7 (λ z. omega arith),
-      lt-leb 8 k (omega arith),
-    )
+pub explain-early : (k : ℕ) (o : Order) (g : Registers) (m p : List ℕ) → 1 ≤ k → k ≤ 4 → explained k o g m p ≡ cause k Named.Nothing
+explain-early k o g m p some few = rw (number-same k some (omega arith), named-none k o g m p (λ l u. omega arith))

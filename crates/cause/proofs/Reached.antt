@@ -20,6 +20,7 @@ use Rattle.machine.specs.Protect.{anyProtected}
 use Rattle.hexfloat.proofs.Answers.{never, stops-inj, StopsBy, checked-by}
 use Rattle.machine.proofs.Checks.{entry-number}
 use Rattle.machine.proofs.Refusals.{effect-by, legal-by}
+use Rattle.cause.specs.Arithmetic.{stopIn}
 
 -- answers by what is known where they stop
 module _ (P : ℕ → Type 0) where
@@ -36,6 +37,10 @@ module _ (P : ℕ → Type 0) where
   stops-known : {A : Type 0} (a : Answer A) → ((k : ℕ) → a ≡ stops k → P k) → StopsBy P a
   stops-known (gives x) h = tt
   stops-known (stops k) h = h k refl
+
+  pub stop-known : {A : Type 0} (a : Answer A) → StopsBy P a → 1 ≤ stopIn a → P (stopIn a)
+  stop-known (gives x) h some = absurd (omega arith)
+  stop-known (stops k) h some = h
 
   stops-at : {A : Type 0} (a : Answer A) (k : ℕ) → a ≡ stops k → StopsBy P a → P k
   stops-at (gives x) k e h = never (sym e)
@@ -60,20 +65,12 @@ pub record Known (o : Order) (g : Registers) (p m : List ℕ) (k : ℕ) : Type 0
 
 module _ (o : Order) (g : Registers) (p m : List ℕ) where
   -- nothing is said of a stop before check 5, nor of 12 and 13
-  early : (k : ℕ) → k ≤ 4 → Known o g p m k
-  early k h = record {
-    illegal = λ e. absurd (omega arith);
-    absent = λ e. absurd (omega arith);
-    protected = λ e. absurd (omega arith);
-    arithmetic = λ l u. absurd (omega arith);
-  }
-
-  late : (k : ℕ) → 12 ≤ k → Known o g p m k
-  late k h = record {
-    illegal = λ e. absurd (omega arith);
-    absent = λ e. absurd (omega arith);
-    protected = λ e. absurd (omega arith);
-    arithmetic = λ l u. absurd (omega arith);
+  outside : (k : ℕ) → (5 ≤ k → k ≤ 11 → ⊥) → Known o g p m k
+  outside k h = record {
+    illegal = λ e. absurd (h (omega arith) (omega arith));
+    absent = λ e. absurd (h (omega arith) (omega arith));
+    protected = λ e. absurd (h (omega arith) (omega arith));
+    arithmetic = λ l u. absurd (h (omega arith) u);
   }
 
   five : legalOf o ≡ stops 5 → Known o g p m 5
@@ -113,8 +110,8 @@ module _ (o : Order) (g : Registers) (p m : List ℕ) where
     unfolding judged
     judged-known used journal =
         let a = addressOf o (g .general) in
-        provided-known (Known o g p m) (not (isHalt (op .verb))) 12 _ (λ z. late 12 (omega arith)) (λ goes.
-        provided-known (Known o g p m) (ltb used (journal / 4)) 13 _ (λ z. late 13 (omega arith)) (λ z.
+        provided-known (Known o g p m) (not (isHalt (op .verb))) 12 _ (λ z. outside 12 (λ l u. omega arith)) (λ goes.
+        provided-known (Known o g p m) (ltb used (journal / 4)) 13 _ (λ z. outside 13 (λ l u. omega arith)) (λ z.
         provided-known (Known o g p m) (present (spanOf op) a (length m)) 6 _ six (λ there.
         provided-known (Known o g p m) (not (anyProtected p a (storedOf op))) 7 _ (λ z. seven (not-false (anyProtected p a (storedOf op)) z)) (λ z.
         stops-known (Known o g p m) (effectOf op o g m) (λ k h.
@@ -130,6 +127,6 @@ unfolding decided
 decided-known d p g used m journal =
     let o = orderAt d (g .status .pointer) in
     let k = entryStop (length d) (length p) (g .status) used (length m) journal in
-    checked-by (Known o g p m) k _ (λ z. early o g p m k (omega (arith, entry-number (length p) (g .status) used (length m) journal (length d))))
-    (provided-known (Known o g p m) (ltb (g .status .pointer) (length d / 4)) 4 _ (λ z. early o g p m 4 (omega arith)) (λ z.
+    checked-by (Known o g p m) k _ (λ z. outside o g p m k (λ l u. omega (arith, entry-number (length p) (g .status) used (length m) journal (length d))))
+    (provided-known (Known o g p m) (ltb (g .status .pointer) (length d / 4)) 4 _ (λ z. outside o g p m 4 (λ l u. omega arith)) (λ z.
     then-known (Known o g p m) (legalOf o) (judged o g used p m journal) (legal-known o g p m) (λ op legal. judged-known o g p m op legal used journal)))

@@ -2,14 +2,14 @@
 use Prim.Native.Nat.{ℕ, _+_, _<_, _≤_}
 use mathlib.Core.Path.{_≡_, refl, sym, ap, _∙_}
 use mathlib.Core.List.{List}
-use mathlib.Core.Logic.{_⊎_, inl, inr, ⊎-elim}
-use mathlib.Core.Bool.{Bool, true, false, cond, _||_}
+use mathlib.Core.Logic.{⊎-elim}
+use mathlib.Core.Bool.{Bool, true, false, _||_}
 use lib.Dec.{eqb, leb}
 use lib.ListN.{length}
 use native.Mathlib.Nat.{eq-zero-or-pos}
 use native.Mathlib.Omega.{arith}
-use borrow.Author.Tests.{ltb-true, eqb-false, leb-true, leb-false, ne-eqb, le-leb, lt-leb}
-use Rattle.hexfloat.specs.Answer.{Answer, gives, stops}
+use borrow.Author.Tests.{ltb-true, eqb-false, leb-false}
+use Rattle.hexfloat.specs.Answer.{gives, stops}
 use Rattle.orders.specs.declared.order.Operation.{Operation}
 use Rattle.orders.specs.declared.order.Order.{Order}
 use Rattle.orders.specs.Order.{legalOf, spanOf, storedOf}
@@ -21,7 +21,6 @@ use Rattle.machine.specs.Machine.{Machine}
 use Rattle.machine.specs.Effect.{effectOf}
 use Rattle.machine.specs.Protect.{isProtected, anyProtected}
 use Rattle.machine.specs.Step.{verdictOf}
-use Rattle.hexfloat.proofs.Answers.{StopsBy}
 use Rattle.cause.specs.declared.naming.Named.{Named}
 use Rattle.cause.specs.Arithmetic.{stopIn, stopBy}
 use Rattle.cause.specs.Cause.{valuesOf, causeNumber, namedFor, nextOrder, whyOf}
@@ -33,28 +32,8 @@ use Rattle.cause.proofs.Arithmetic.{effect-stop, same-stop}
 use Rattle.cause.proofs.Attempted.{step-number}
 use Rattle.cause.proofs.Cells.{first-broken}
 use Rattle.cause.proofs.Lowest.{lowest-is, any-lowest, absent-found}
-use Rattle.cause.proofs.Reached.{Known, decided-known}
-
--- a number from 1 to 11 is answered as it is, any other as 18
-number-or : (k : ℕ) → ((1 ≤ k) × (k ≤ 11) × (causeNumber k ≡ k)) ⊎ (causeNumber k ≡ 18)
-unfolding causeNumber
-number-or k = cases (eqb k 0) (leb k 11) refl refl
-  where
-    cases : (x y : Bool) → eqb k 0 ≡ x → leb k 11 ≡ y → ((1 ≤ k) × (k ≤ 11) × (cond x 18 (cond y k 18) ≡ k)) ⊎ (cond x 18 (cond y k 18) ≡ 18)
-    cases true y a b = inr refl
-    cases false true a b = let some = eqb-false k 0 a in inl (⊎-elim (λ z. absurd (some z)) (λ z. z) (eq-zero-or-pos k), leb-true k 11 b, refl)
-    cases false false a b = inr refl
-
-number-is : (k n : ℕ) → causeNumber k ≡ n → n ≤ 11 → (k ≡ n) × (1 ≤ k)
-number-is k n h few = ⊎-elim (λ z. (sym (z .2) ∙ h, z .0)) (λ z. absurd (omega (arith, z))) (number-or k)
-
-number-listed : (k : ℕ) → (causeNumber k ≡ 18 → ⊥) → (1 ≤ causeNumber k) × (causeNumber k ≤ 11)
-number-listed k h = ⊎-elim (λ z. (omega (arith, z .0, z .2), omega (arith, z .1, z .2))) (λ z. absurd (h z)) (number-or k)
-
--- the fact about a stop that is not 0
-stop-known : {A : Type 0} (P : ℕ → Type 0) (a : Answer A) → StopsBy P a → 1 ≤ stopIn a → P (stopIn a)
-stop-known P (gives x) h some = absurd (omega arith)
-stop-known P (stops k) h some = h
+use Rattle.cause.proofs.Numbers.{number-same, number-is, number-listed, named-words, named-none}
+use Rattle.cause.proofs.Reached.{stop-known, Known, decided-known}
 
 -- a part of S is past the end of memory
 past-end : (span a memory : ℕ) → present span a memory ≡ false → (0 < span) × (memory < a + span)
@@ -69,34 +48,6 @@ past-end span a memory h = cases (eqb span 0) (leb (a + span) memory) refl refl 
 module _ (o : Order) (g : Registers) (p m : List ℕ) where
   abbrev named : ℕ → Named
   named k = namedFor k o g m p
-
-  -- 8 to 11 name words
-  named-words : (k : ℕ) → 8 ≤ k → k ≤ 11 → named k ≡ wordsRead (operandsRead o (g .float) (g .general) m)
-  unfolding namedFor
-  named-words k l u =
-      rw (ne-eqb k 5 (λ z. omega arith), ne-eqb k 6 (λ z. omega arith), ne-eqb k 7 (λ z. omega arith), le-leb 8 k l, le-leb k 11 u)
-
-  -- what is none of 5 to 11 names nothing
-  named-none : (k : ℕ) → (5 ≤ causeNumber k → causeNumber k ≤ 11 → ⊥) → named k ≡ Named.Nothing
-  unfolding namedFor causeNumber
-  named-none k h = cases (leb 5 k) (leb k 11) refl refl
-    where
-      cases : (x y : Bool) → leb 5 k ≡ x → leb k 11 ≡ y → named k ≡ Named.Nothing
-      cases false y a b =
-          let low = leb-false 5 k a in
-          rw (ne-eqb k 5 (λ z. omega arith), ne-eqb k 6 (λ z. omega arith), ne-eqb k 7 (λ z. omega arith), lt-leb 8 k (omega arith))
-      cases true false a b =
-          let high = leb-false k 11 b in
-          rw (
-            ne-eqb k 5 (λ z. omega arith),
-            ne-eqb k 6 (λ z. omega arith),
-            ne-eqb k 7 (λ z. omega arith),
-            le-leb 8 k (omega arith),
-            lt-leb k 11 high,
-          )
-      cases true true a b =
-          let low = leb-true 5 k a in
-          absurd (rw (ne-eqb k 0 (λ z. omega arith), b) at h low (leb-true k 11 b))
 
   cell-named : (k : ℕ) → k ≡ 5 → legalOf o ≡ stops 5 → NamesCell o (named k)
   unfolding namedFor
@@ -135,7 +86,7 @@ module _ (o : Order) (g : Registers) (p m : List ℕ) where
         (k : ℕ) → 8 ≤ k → k ≤ 11 → present (spanOf op) (addressOf o (g .general)) (length m) ≡ true → effectOf op o g m ≡ stops k →
         stopBy o (g .status .mask) (valuesOf (named k)) ≡ k
     words-stop k l u there h =
-        ap (λ (n : Named). stopBy o (g .status .mask) (valuesOf n)) (named-words k l u)
+        ap (λ (n : Named). stopBy o (g .status .mask) (valuesOf n)) (named-words k o g m p l u)
         ∙ ap (stopBy o (g .status .mask)) (words-are there)
         ∙ sym (effect-stop op o legal g m)
         ∙ ap stopIn h
@@ -151,7 +102,7 @@ true-cause d p x =
     record {
       number = ap causeNumber (sym (step-number d p x));
       listed = number-listed k;
-      nothing = named-none o g p m k;
+      nothing = λ h. named-none k o g m p (λ l u. let same = number-same k (omega arith) u in h (omega (arith, same)) (omega (arith, same)));
       cell = λ h. let q = number-is k 5 h (omega arith) in cell-named o g p m k (q .0) (known (q .1) .illegal (q .0));
       absent = λ h.
           let q = number-is k 6 h (omega arith) in

@@ -80,7 +80,7 @@ returns-4 c =
     let x = c .before .before .before .before .before .before .before .before .before .before .before .before .before .before .before .before .before .before in
     let e = sym (ap saysFetched (c .before .before .before .before .before .before .before .fetched .given .1)) ∙ c .before .before .before .before .before .before .before .before .before .fetch .ensures in
     let free = rw (c .before .before .before .before .lowest-protected .ensures, c .before .before .before .before .before .stored .ensures, c .before .before .before .before .before .before .before .before .before .before .before .before .address .ensures) at (c .before .before .before .if1 .left) in
-    rw (c .before .before .attempt .ensures, c .words-read .ensures) (sym (explain-words (x .args .op) (x .args .o) (x .args .registers) (x .args .protect .now) (x .args .memory .now) (x .pre) _ e free (λ z. c .before .if2 .left (c .before .before .attempt .ensures ∙ z))))
+    rw (c .before .before .attempt .ensures, c .words-read .ensures) (sym (explain-words (x .args .op) (x .args .o) (x .args .registers) (x .args .protect .now) (x .args .memory .now) (x .pre) _ e free (rw (← c .before .before .attempt .ensures) (search needs))))
 
 pub access-spec : {M : Type 1} → statement M
 access-spec =

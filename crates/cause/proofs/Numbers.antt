@@ -1,0 +1,63 @@
+-- The number that is answered for a step's stop, and what it names.
+use Prim.Native.Nat.{ℕ, _≤_}
+use mathlib.Core.Path.{_≡_, refl, sym, _∙_}
+use mathlib.Core.List.{List}
+use mathlib.Core.Logic.{_⊎_, inl, inr, ⊎-elim}
+use mathlib.Core.Bool.{Bool, true, false, cond}
+use lib.Dec.{eqb, leb}
+use native.Mathlib.Nat.{eq-zero-or-pos}
+use native.Mathlib.Omega.{arith}
+use borrow.Author.Tests.{eqb-false, leb-true, ne-eqb, le-leb}
+use Rattle.orders.specs.declared.order.Order.{Order}
+use Rattle.machine.specs.declared.state.Registers.{Registers}
+use Rattle.machine.specs.Fetch.{operandsRead}
+use Rattle.cause.specs.declared.naming.Named.{Named}
+use Rattle.cause.specs.Cause.{causeNumber, namedFor}
+use Rattle.cause.specs.Words.{wordsRead}
+
+-- a number from 1 to 11 is answered as it is
+pub number-same : (k : ℕ) → 1 ≤ k → k ≤ 11 → causeNumber k ≡ k
+unfolding causeNumber
+number-same k l u = rw (ne-eqb k 0 (λ z. omega arith), le-leb k 11 u)
+
+-- and any other as 18
+number-or : (k : ℕ) → ((1 ≤ k) × (k ≤ 11)) ⊎ (causeNumber k ≡ 18)
+unfolding causeNumber
+number-or k = cases (eqb k 0) (leb k 11) refl refl
+  where
+    cases : (x y : Bool) → eqb k 0 ≡ x → leb k 11 ≡ y → ((1 ≤ k) × (k ≤ 11)) ⊎ (cond x 18 (cond y k 18) ≡ 18)
+    cases true y a b = inr refl
+    cases false true a b = let some = eqb-false k 0 a in inl (⊎-elim (λ z. absurd (some z)) (λ z. z) (eq-zero-or-pos k), leb-true k 11 b)
+    cases false false a b = inr refl
+
+pub number-is : (k n : ℕ) → causeNumber k ≡ n → n ≤ 11 → (k ≡ n) × (1 ≤ k)
+number-is k n h few = ⊎-elim (λ z. (sym (number-same k (z .0) (z .1)) ∙ h, z .0)) (λ z. absurd (omega (arith, z))) (number-or k)
+
+pub number-listed : (k : ℕ) → (causeNumber k ≡ 18 → ⊥) → (1 ≤ causeNumber k) × (causeNumber k ≤ 11)
+number-listed k h =
+    ⊎-elim (λ z. let same = number-same k (z .0) (z .1) in (omega (arith, z .0, same), omega (arith, z .1, same))) (λ z. absurd (h z)) (number-or k)
+
+module _ (k : ℕ) (o : Order) (g : Registers) (m p : List ℕ) where
+  -- 8 to 11 name words
+  pub named-words : 8 ≤ k → k ≤ 11 → namedFor k o g m p ≡ wordsRead (operandsRead o (g .float) (g .general) m)
+  unfolding namedFor
+  named-words l u =
+      rw (ne-eqb k 5 (λ z. omega arith), ne-eqb k 6 (λ z. omega arith), ne-eqb k 7 (λ z. omega arith), le-leb 8 k l, le-leb k 11 u)
+
+  -- what is none of 5 to 11 names nothing
+  pub named-none : (5 ≤ k → k ≤ 11 → ⊥) → namedFor k o g m p ≡ Named.Nothing
+  unfolding namedFor
+  named-none h = cases (leb 8 k) refl
+    where
+      not-one : (n : ℕ) → 5 ≤ n → n ≤ 11 → eqb k n ≡ false
+      not-one n l u = ne-eqb k n (λ z. h (omega arith) (omega arith))
+
+      cases : (x : Bool) → leb 8 k ≡ x → namedFor k o g m p ≡ Named.Nothing
+      cases false a = rw (not-one 5 (omega arith) (omega arith), not-one 6 (omega arith) (omega arith), not-one 7 (omega arith) (omega arith), a)
+      cases true a =
+          let past : leb k 11 ≡ false = high (leb k 11) refl (leb-true 8 k a) in
+          rw (not-one 5 (omega arith) (omega arith), not-one 6 (omega arith) (omega arith), not-one 7 (omega arith) (omega arith), a, past)
+        where
+          high : (x : Bool) → leb k 11 ≡ x → 8 ≤ k → x ≡ false
+          high false b l = refl
+          high true b l = absurd (h (omega arith) (leb-true k 11 b))
