@@ -1,0 +1,4 @@
+pub mod Bits
+pub mod Marks
+pub mod Unpacked
+pub mod Theorems

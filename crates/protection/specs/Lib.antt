@@ -1,0 +1,4 @@
+pub mod Form
+pub mod Bits
+pub mod Bytes
+pub mod Theorems
