@@ -32,6 +32,18 @@ pub then-gives : {A B : Type 0} {y : B} (a : Answer A) (f : A → Answer B) → 
 then-gives (gives x) f h = (x, refl, h)
 then-gives (stops n) f h = never h
 
+-- answers that are the same where the checks before them pass
+pub provided-same : {A : Type 0} (ok : Bool) (n : ℕ) (x y : Answer A) → (ok ≡ true → x ≡ y) → provided ok n x ≡ provided ok n y
+provided-same true n x y h = h refl
+provided-same false n x y h = refl
+
+pub checked-same : {A : Type 0} (k : ℕ) (x y : Answer A) → (k ≡ 0 → x ≡ y) → checked k x ≡ checked k y
+checked-same k x y h = provided-same (eqb k 0) k x y (λ e. h (eqb-true k 0 e))
+
+pub then-same : {A B : Type 0} (a : Answer A) (f g : A → Answer B) → ((x : A) → a ≡ gives x → f x ≡ g x) → andThen a f ≡ andThen a g
+then-same (gives x) f g h = h x refl
+then-same (stops n) f g h = refl
+
 -- an answer whose stop, if it is one, has a number that P holds of
 abbrev pub StopsBy : {A : Type 0} → (ℕ → Type 0) → Answer A → Type 0
 StopsBy P (gives x) = Unit {0}

@@ -4,11 +4,11 @@ use mathlib.Core.Path.{_≡_, refl}
 use mathlib.Core.Bool.{Bool, true, false, cond, _&&_, _||_}
 use lib.Dec.{eqb, leb}
 use native.Mathlib.Omega.{arith}
-use borrow.Author.Tests.{eqb-true, eqb-false, leb-true, le-leb, eq-eqb, ne-eqb}
+use borrow.Author.Tests.{eqb-true, eqb-false, leb-true, le-leb, ne-eqb}
+use Rattle.protection.specs.Form.{ProtectList, covers}
 use Rattle.machine.specs.declared.state.Status.{Status}
 use Rattle.machine.specs.Check.{deckSized, buffersSized, stateFormed, present}
 use Rattle.machine.specs.Decide.{heldStop, entryStop}
-use Rattle.machine.specs.Protect.{coverOf}
 use Rattle.machine.specs.Status.{conditionFormed, statusFormed, Packable}
 
 pub both : (a b : Bool) → (a && b) ≡ true → (a ≡ true) × (b ≡ true)
@@ -16,10 +16,10 @@ both true b h = (refl, h)
 both false b h = let z : _≡_ {A = Bool} false true = h in absurd (let y : _≡_ {A = ℕ} 0 1 = cc in omega arith)
 
 -- checks 2 and 3
-pub record Held (protect : ℕ) (s : Status) (used memory journal : ℕ) : Type 0 where
+pub record Held (p : ProtectList) (s : Status) (used memory journal : ℕ) : Type 0 where
   pub memory-size : memory ≤ 32768
   pub journal-size : journal ≤ 16384
-  pub cover : protect ≡ coverOf memory
+  pub cover : covers p memory ≡ true
   pub condition : conditionFormed (s .condition) ≡ true
   pub mask : s .mask ≤ 1
   pub room : used ≤ journal / 4
@@ -38,62 +38,62 @@ entry-cases : (a : Bool) (k : ℕ) → _≡_ {A = ℕ} (cond a k 1) 0 → (a ≡
 entry-cases true k h = (refl, h)
 entry-cases false k h = absurd (omega arith)
 
-module _ (protect : ℕ) (s : Status) (used memory journal : ℕ) where
-  pub held : heldStop protect s used memory journal ≡ 0 → Held protect s used memory journal
+module _ (p : ProtectList) (s : Status) (used memory journal : ℕ) where
+  pub held : heldStop p s used memory journal ≡ 0 → Held p s used memory journal
   unfolding heldStop buffersSized stateFormed statusFormed
   held h =
-      let c = held-cases (buffersSized protect memory journal) (stateFormed s used journal) h in
-      let b = both (leb memory 32768) (leb journal 16384 && eqb protect (coverOf memory)) (c .0) in
-      let d = both (leb journal 16384) (eqb protect (coverOf memory)) (b .1) in
+      let c = held-cases (buffersSized p memory journal) (stateFormed s used journal) h in
+      let b = both (leb memory 32768) (leb journal 16384 && covers p memory) (c .0) in
+      let d = both (leb journal 16384) (covers p memory) (b .1) in
       let f = both (statusFormed s) (leb used (journal / 4)) (c .1) in
       let e = both (conditionFormed (s .condition)) (leb (s .mask) 1) (f .0) in
       record {
         memory-size = leb-true memory 32768 (b .0);
         journal-size = leb-true journal 16384 (d .0);
-        cover = eqb-true protect (coverOf memory) (d .1);
+        cover = d .1;
         condition = e .0;
         mask = leb-true (s .mask) 1 (e .1);
         room = leb-true used (journal / 4) (f .1);
       }
 
   -- and the converse
-  pub held-zero : Held protect s used memory journal → heldStop protect s used memory journal ≡ 0
+  pub held-zero : Held p s used memory journal → heldStop p s used memory journal ≡ 0
   unfolding heldStop buffersSized stateFormed statusFormed
   held-zero h =
       rw (
         le-leb memory 32768 (h .memory-size),
         le-leb journal 16384 (h .journal-size),
-        eq-eqb protect (coverOf memory) (h .cover),
+        h .cover,
         h .condition,
         le-leb (s .mask) 1 (h .mask),
         le-leb used (journal / 4) (h .room),
       )
 
-  pub entered : (deck : ℕ) → entryStop deck protect s used memory journal ≡ 0 → Sized deck × (heldStop protect s used memory journal ≡ 0)
+  pub entered : (deck : ℕ) → entryStop deck p s used memory journal ≡ 0 → Sized deck × (heldStop p s used memory journal ≡ 0)
   unfolding entryStop deckSized
   entered deck h =
-      let c = entry-cases (deckSized deck) (heldStop protect s used memory journal) h in
+      let c = entry-cases (deckSized deck) (heldStop p s used memory journal) h in
       let b = both (eqb (deck % 4) 0) (leb deck 16384) (c .0) in
       (record { multiple = eqb-true (deck % 4) 0 (b .0); size = leb-true deck 16384 (b .1) }, c .1)
 
   -- which numbers they answer
-  pub held-number : (P : ℕ → Type 0) → P 0 → P 2 → P 3 → P (heldStop protect s used memory journal)
+  pub held-number : (P : ℕ → Type 0) → P 0 → P 2 → P 3 → P (heldStop p s used memory journal)
   unfolding heldStop
-  held-number P a b c = cases (buffersSized protect memory journal) (stateFormed s used journal)
+  held-number P a b c = cases (buffersSized p memory journal) (stateFormed s used journal)
     where
       cases : (x y : Bool) → P (cond x (cond y 0 3) 2)
       cases true true = a
       cases true false = c
       cases false y = b
 
-  pub entry-number : (deck : ℕ) → entryStop deck protect s used memory journal ≤ 3
+  pub entry-number : (deck : ℕ) → entryStop deck p s used memory journal ≤ 3
   unfolding entryStop
   entry-number deck = cases (deckSized deck)
     where
-      few : heldStop protect s used memory journal ≤ 3
+      few : heldStop p s used memory journal ≤ 3
       few = held-number (λ n. n ≤ 3) (omega arith) (omega arith) (omega arith)
 
-      cases : (x : Bool) → cond x (heldStop protect s used memory journal) 1 ≤ 3
+      cases : (x : Bool) → cond x (heldStop p s used memory journal) 1 ≤ 3
       cases true = few
       cases false = omega arith
 

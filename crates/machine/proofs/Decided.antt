@@ -10,32 +10,32 @@ use borrow.Author.Tests.{ltb-true, not-true}
 use Rattle.hexfloat.specs.Answer.{gives}
 use Rattle.orders.specs.declared.order.Operation.{Operation}
 use Rattle.orders.specs.declared.order.Order.{Order}
+use Rattle.protection.specs.Form.{ProtectList}
 use Rattle.machine.specs.declared.state.Registers.{Registers}
 use Rattle.machine.specs.declared.verdict.Effect.{Effect}
 use Rattle.machine.specs.Address.{addressOf}
-use Rattle.machine.specs.Check.{present}
+use Rattle.machine.specs.Check.{present, anyProtected}
 use Rattle.machine.specs.Decide.{entryStop, judged, decided}
 use Rattle.machine.specs.Effect.{effectOf}
 use Rattle.machine.specs.Machine.{Committable}
 use Rattle.machine.specs.Operand.{secondOperand}
 use Rattle.orders.specs.Order.{legalOf, spanOf, storedOf, isHalt, orderAt}
-use Rattle.machine.specs.Protect.{anyProtected}
 use Rattle.hexfloat.proofs.Answers.{provided-gives, checked-gives, then-gives}
 use Rattle.machine.proofs.Checks.{Held, held, entered, packable, present-fewer}
 use Rattle.machine.proofs.Effects.{Fine, effect-fine}
 use Rattle.machine.proofs.Rows.{Passed, legal-passed}
 
 -- where a step is taken, checks 1 to 3 and 13 pass, and its effect is fine
-pub record Taken (d p : List ℕ) (g : Registers) (used : ℕ) (m : List ℕ) (journal : ℕ) (e : Effect) : Type 0 where
-  pub entry : entryStop (length d) (length p) (g .status) used (length m) journal ≡ 0
+pub record Taken (d : List ℕ) (p : ProtectList) (g : Registers) (used : ℕ) (m : List ℕ) (journal : ℕ) (e : Effect) : Type 0 where
+  pub entry : entryStop (length d) p (g .status) used (length m) journal ≡ 0
   pub pointer : g .status .pointer < 65536
   pub room : used < journal / 4
   pub fine : Fine p (length m) e
 
-module _ (d p : List ℕ) (g : Registers) (used : ℕ) (m : List ℕ) (journal : ℕ) (e : Effect) where
+module _ (d : List ℕ) (p : ProtectList) (g : Registers) (used : ℕ) (m : List ℕ) (journal : ℕ) (e : Effect) where
   -- the same of an order whose operation is known
   judged-fine :
-      (op : Operation) (o : Order) → Passed op o → Held (length p) (g .status) used (length m) journal →
+      (op : Operation) (o : Order) → Passed op o → Held p (g .status) used (length m) journal →
       judged o g used p m journal op ≡ gives e → (used < journal / 4) × Fine p (length m) e
   unfolding judged effectOf
   judged-fine op o w hd h =
@@ -62,20 +62,20 @@ module _ (d p : List ℕ) (g : Registers) (used : ℕ) (m : List ℕ) (journal :
   unfolding decided
   decided-taken h =
       let at = g .status .pointer in
-      let k3 = checked-gives (entryStop (length d) (length p) (g .status) used (length m) journal) _ h in
+      let k3 = checked-gives (entryStop (length d) p (g .status) used (length m) journal) _ h in
       let k4 = provided-gives (ltb at (length d / 4)) 4 _ (k3 .1) in
-      let q = entered (length p) (g .status) used (length m) journal (length d) (k3 .0) in
+      let q = entered p (g .status) used (length m) journal (length d) (k3 .0) in
       let o = orderAt d at in
       let below : at < length d / 4 = ltb-true at (length d / 4) (k4 .0) in
       let t = then-gives (legalOf o) (judged o g used p m journal) (k4 .1) in
-      let r = judged-fine (t .0) o (legal-passed o (t .0) (t .1)) (held (length p) (g .status) used (length m) journal (q .1)) (t .2) in
+      let r = judged-fine (t .0) o (legal-passed o (t .0) (t .1)) (held p (g .status) used (length m) journal (q .1)) (t .2) in
       record { entry = k3 .0; pointer = omega (arith, q .0 .size); room = r .0; fine = r .1 }
 
   -- what the code that writes a step asks
   pub committable : decided d p g used m journal ≡ gives e → Committable e (g .status) used (length m) journal
   committable h =
       let t = decided-taken h in
-      let checks = held (length p) (g .status) used (length m) journal (entered (length p) (g .status) used (length m) journal (length d) (t .entry) .1) in
+      let checks = held p (g .status) used (length m) journal (entered p (g .status) used (length m) journal (length d) (t .entry) .1) in
       record {
         register = t .fine .registers;
         there = t .fine .there;

@@ -2,7 +2,6 @@
 -- code and mask are of the form.
 use Prim.Native.Nat.{ℕ, _≤_}
 use mathlib.Core.Path.{_≡_, refl, subst}
-use mathlib.Core.List.{List}
 use mathlib.Core.Bool.{Bool, true, false}
 use lib.Dec.{eqb}
 use native.Mathlib.Omega.{arith}
@@ -15,25 +14,25 @@ use Rattle.hexfloat.specs.Convert.{toFixed}
 use Rattle.hexfloat.specs.Divide.{quotientWords}
 use Rattle.hexfloat.specs.Multiply.{productWords}
 use Rattle.hexfloat.proofs.Conditions.{conditions-set}
+use Rattle.protection.specs.Form.{ProtectList}
 use Rattle.machine.specs.declared.change.Change.{Change}
 use Rattle.orders.specs.declared.order.Order.{Order}
 use Rattle.orders.specs.declared.order.Verb.{Verb}
 use Rattle.machine.specs.declared.state.Registers.{Registers}
 use Rattle.machine.specs.declared.verdict.Effect.{Effect}
 use Rattle.machine.specs.Change.{registered, placed, guarded, floatChange, storageChange}
-use Rattle.machine.specs.Check.{present}
+use Rattle.machine.specs.Check.{present, anyProtected}
 use Rattle.machine.specs.Effect.{nextEffect, conditionAfter, fixedInto, resultInto, productWidth, performed}
 use Rattle.machine.specs.Jump.{jumped, countedDown}
 use Rattle.machine.specs.Operand.{floatOperand}
 use Rattle.orders.specs.Order.{storedAs, halfwords}
-use Rattle.machine.specs.Protect.{anyProtected}
 use Rattle.machine.specs.Status.{conditionFormed}
 use Rattle.hexfloat.proofs.Answers.{gives-inj, never, mapped-gives}
 use Rattle.machine.proofs.Arithmetic.{formed}
 use Rattle.machine.proofs.Rows.{maskFits}
 
 -- of an effect, over a protect list and so many halfwords
-pub record Fine (p : List ℕ) (n : ℕ) (e : Effect) : Type 0 where
+pub record Fine (p : ProtectList) (n : ℕ) (e : Effect) : Type 0 where
   pub registers : registered (e .change) ≡ true
   pub there : placed (e .change) n ≡ true
   pub free : guarded p (e .change) ≡ false
@@ -41,7 +40,7 @@ pub record Fine (p : List ℕ) (n : ℕ) (e : Effect) : Type 0 where
   pub mask : e .status .mask ≤ 1
 
 -- of a verb at a width before its effect is worked out; what it stores goes to a, and r2 is at most k
-pub record Sound (v : Verb) (w : Width) (o : Order) (g : Registers) (p : List ℕ) (n a k : ℕ) : Type 0 where
+pub record Sound (v : Verb) (w : Width) (o : Order) (g : Registers) (p : ProtectList) (n a k : ℕ) : Type 0 where
   pub first : o .r1 ≤ 7
   pub second : o .r2 ≤ k
   pub limit : maskFits v k ≡ true
@@ -50,7 +49,7 @@ pub record Sound (v : Verb) (w : Width) (o : Order) (g : Registers) (p : List �
   pub condition : conditionFormed (g .status .condition) ≡ true
   pub mask : g .status .mask ≤ 1
 
-module _ (p : List ℕ) (n a k : ℕ) where
+module _ (p : ProtectList) (n a k : ℕ) where
   fine-is : {x e : Effect} → gives x ≡ gives e → Fine p n x → Fine p n e
   fine-is h f = subst (λ (y : Effect). Fine p n y) (gives-inj h) f
 

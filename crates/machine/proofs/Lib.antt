@@ -1,3 +1,4 @@
+pub mod Alike
 pub mod Arithmetic
 pub mod Checks
 pub mod Decided

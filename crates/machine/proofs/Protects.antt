@@ -1,19 +1,20 @@
 -- The protected halfwords among several, one more at the front.
-use Prim.Native.Nat.{ℕ, zero, suc, _+_, _-_, _<_, _≤_}
-use mathlib.Core.Path.{_≡_, refl, ap}
-use mathlib.Core.List.{List}
+use Prim.Native.Nat.{ℕ, suc, _+_, _-_, _<_, _≤_}
+use mathlib.Core.Path.{_≡_, ap}
 use mathlib.Core.Bool.{false, _||_}
 use native.Mathlib.Omega.{arith}
-use Rattle.machine.specs.Protect.{isProtected, anyProtected}
+use Rattle.protection.specs.Form.{ProtectList, isProtected}
+use Rattle.machine.specs.Check.{anyProtected}
 
-pub any-more : (p : List ℕ) (a n : ℕ) → 0 < n → anyProtected p a n ≡ (isProtected p a || anyProtected p (a + 1) (n - 1))
+-- those from a up to the end
+pub any-more : (p : ProtectList) (a end : ℕ) → a < end → anyProtected p a (end - a) ≡ (isProtected p a || anyProtected p (a + 1) (end - (a + 1)))
 unfolding anyProtected
-any-more p a zero h = absurd (omega arith)
-any-more p a (suc n) h =
-    let e : n ≡ suc n - 1 = omega arith in
-    ap (λ (k : ℕ). isProtected p a || anyProtected p (a + 1) k) e
+any-more p a end h =
+    let e : end - a ≡ suc (end - (a + 1)) = omega arith in
+    ap (anyProtected p a) e
 
-pub any-none : (p : List ℕ) (a n : ℕ) → n ≤ 0 → anyProtected p a n ≡ false
+pub any-none : (p : ProtectList) (a end : ℕ) → end ≤ a → anyProtected p a (end - a) ≡ false
 unfolding anyProtected
-any-none p a zero h = refl
-any-none p a (suc n) h = absurd (omega arith)
+any-none p a end h =
+    let e : end - a ≡ 0 = omega arith in
+    ap (anyProtected p a) e

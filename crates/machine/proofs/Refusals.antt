@@ -15,15 +15,15 @@ use Rattle.hexfloat.proofs.Conditions.{stops-numbered}
 use Rattle.orders.specs.declared.order.Operation.{Operation}
 use Rattle.orders.specs.declared.order.Order.{Order}
 use Rattle.orders.specs.declared.order.Verb.{Verb}
+use Rattle.protection.specs.Form.{ProtectList}
 use Rattle.machine.specs.declared.state.Registers.{Registers}
 use Rattle.machine.specs.declared.verdict.Effect.{Effect}
 use Rattle.machine.specs.Address.{addressOf}
-use Rattle.machine.specs.Check.{present}
+use Rattle.machine.specs.Check.{present, anyProtected}
 use Rattle.machine.specs.Decide.{entryStop, judged, decided}
 use Rattle.machine.specs.Effect.{fixedInto, resultInto, productWidth, performed, effectOf}
 use Rattle.machine.specs.Operand.{floatOperand, secondOperand}
 use Rattle.orders.specs.Order.{rowAmong, rows, operationOf, withinLimits, legalOf, spanOf, storedOf, isHalt, orderAt}
-use Rattle.machine.specs.Protect.{anyProtected}
 use Rattle.hexfloat.proofs.Answers.{StopsBy, provided-by, checked-by, mapped-by, then-by, cond-by, numbered-by}
 use Rattle.machine.proofs.Checks.{entry-number}
 
@@ -79,7 +79,7 @@ module _ (k : ℕ) (some : 1 ≤ k) (most : k ≤ 13) where
   number : StepNumber k
   number = record { some = some; most = most }
 
-judged-by : (o : Order) (g : Registers) (used : ℕ) (p m : List ℕ) (journal : ℕ) (op : Operation) → StopsBy StepNumber (judged o g used p m journal op)
+judged-by : (o : Order) (g : Registers) (used : ℕ) (p : ProtectList) (m : List ℕ) (journal : ℕ) (op : Operation) → StopsBy StepNumber (judged o g used p m journal op)
 unfolding judged
 judged-by o g used p m journal op =
     provided-by StepNumber (not (isHalt (op .verb))) 12 _ (number 12 (omega arith) (omega arith))
@@ -88,11 +88,11 @@ judged-by o g used p m journal op =
     (provided-by StepNumber (not (anyProtected p (addressOf o (g .general)) (storedOf op))) 7 _ (number 7 (omega arith) (omega arith))
     (effect-by StepNumber (λ n l u. number n (omega arith) (omega arith)) op o g m (λ z. number 12 (omega arith) (omega arith))))))
 
-pub decided-by : (d p : List ℕ) (g : Registers) (used : ℕ) (m : List ℕ) (journal : ℕ) → StopsBy StepNumber (decided d p g used m journal)
+pub decided-by : (d : List ℕ) (p : ProtectList) (g : Registers) (used : ℕ) (m : List ℕ) (journal : ℕ) → StopsBy StepNumber (decided d p g used m journal)
 unfolding decided
 decided-by d p g used m journal =
     let o = orderAt d (g .status .pointer) in
-    let k = entryStop (length d) (length p) (g .status) used (length m) journal in
-    checked-by StepNumber k _ (λ z. record { some = omega arith; most = omega (arith, entry-number (length p) (g .status) used (length m) journal (length d)) })
+    let k = entryStop (length d) p (g .status) used (length m) journal in
+    checked-by StepNumber k _ (λ z. record { some = omega arith; most = omega (arith, entry-number p (g .status) used (length m) journal (length d)) })
     (provided-by StepNumber (ltb (g .status .pointer) (length d / 4)) 4 _ (number 4 (omega arith) (omega arith))
     (then-by StepNumber (legalOf o) (judged o g used p m journal) (legal-by StepNumber (number 5 (omega arith) (omega arith)) o) (judged-by o g used p m journal)))

@@ -8,6 +8,7 @@ use lib.ListN.{length}
 use native.Mathlib.Omega.{arith}
 use borrow.Author.Tests.{eqb-true, eqb-false, not-true}
 use Rattle.hexfloat.specs.Answer.{gives, stops, provided}
+use Rattle.protection.specs.Form.{ProtectList}
 use Rattle.machine.specs.declared.change.Change.{Change}
 use Rattle.machine.specs.declared.journal.Record.{Record}
 use Rattle.machine.specs.declared.state.State.{State}
@@ -19,8 +20,8 @@ use Rattle.machine.specs.Journal.{fourWords, recordAt, encodedAs, inRegi
 use Rattle.machine.specs.Status.{conditionFormed, unpacked}
 use Rattle.hexfloat.proofs.Answers.{gives-inj, never, provided-gives, checked-gives, mapped-gives, then-gives}
 
-pub record Returned (p : List ℕ) (s : State) (memory : ℕ) (journal : ℕ) (e : Effect) : Type 0 where
-  pub held : heldStop (length p) (s .registers .status) (s .used) memory journal ≡ 0
+pub record Returned (p : ProtectList) (s : State) (memory : ℕ) (journal : ℕ) (e : Effect) : Type 0 where
+  pub held : heldStop p (s .registers .status) (s .used) memory journal ≡ 0
   pub used : 1 ≤ s .used
   pub registers : registered (e .change) ≡ true
   pub there : placed (e .change) memory ≡ true
@@ -100,7 +101,7 @@ decoded-gives q e h =
       subst (λ (x : Effect). Formed (q .head / 2 ^ 19) (q .place) (q .left) (q .right) (x .change)) (m .2) f,
     )
 
-module _ (p : List ℕ) (memory : ℕ) where
+module _ (p : ProtectList) (memory : ℕ) where
   allowed-gives : (e x : Effect) → allowed e p memory ≡ gives x → (e ≡ x) × (placed (x .change) memory ≡ true) × (guarded p (x .change) ≡ false)
   unfolding allowed
   allowed-gives e x h =
@@ -112,7 +113,7 @@ module _ (p : List ℕ) (memory : ℕ) where
   pub returning-gives : (s : State) (j : List ℕ) (e : Effect) → returning p s memory j ≡ gives e → Returned p s memory (length j) e
   unfolding returning
   returning-gives s j e h =
-      let k = checked-gives (heldStop (length p) (s .registers .status) (s .used) memory (length j)) _ h in
+      let k = checked-gives (heldStop p (s .registers .status) (s .used) memory (length j)) _ h in
       let l = provided-gives (not (eqb (s .used) 0)) 14 _ (k .1) in
       let t = then-gives (decoded (recordAt j (s .used - 1))) (λ x. allowed x p memory) (l .1) in
       let a = allowed-gives (t .0) e (t .2) in

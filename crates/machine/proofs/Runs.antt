@@ -7,6 +7,7 @@ use mathlib.Core.List.{List}
 use native.Mathlib.Omega.{arith}
 use borrow.Author.Tests.{ne-eqb}
 use Rattle.hexfloat.specs.Answer.{Answer, gives, stops}
+use Rattle.protection.specs.Form.{ProtectList}
 use Rattle.machine.specs.declared.verdict.Effect.{Effect}
 use Rattle.machine.specs.Decide.{decided}
 use Rattle.machine.specs.Machine.{Machine, committed}
@@ -19,7 +20,7 @@ use Rattle.machine.proofs.Refusals.{StepNumber, decided-by}
 abbrev pub grown : {W : Type 0} → ℕ → Outcome W → Outcome W
 grown n r = outcome (r .after) (n + r .taken) (r .stop)
 
-module _ (d p : List ℕ) where
+module _ (d : List ℕ) (p : ProtectList) where
   -- a step that is taken, and what is left of the limit
   step-on : (n : ℕ) (x : Machine) (e : Effect) → verdictOf d p x ≡ gives e → stepsOf d p (suc n) x ≡ counted (stepsOf d p n (committed e x))
   unfolding repeated
@@ -64,13 +65,13 @@ module _ (d p : List ℕ) where
       ap (λ (z : Machine). single z k) after ∙ ap (λ (i : ℕ). single (stepped d p x .after) i) stop ∙ sym (stepped-single x)
 
 -- a loop of steps: x and count are what the first count steps from start lead to
-pub record Under (d p : List ℕ) (limit : ℕ) (start x : Machine) (count : ℕ) : Type 0 where
+pub record Under (d : List ℕ) (p : ProtectList) (limit : ℕ) (start x : Machine) (count : ℕ) : Type 0 where
   pub same : stepsOf d p limit start ≡ grown count (stepsOf d p (limit - count) x)
   pub within : count ≤ limit
   pub memory : length (x .memory) ≡ length (start .memory)
   pub journal : length (x .journal) ≡ length (start .journal)
 
-module _ (d p : List ℕ) (limit : ℕ) (start : Machine) where
+module _ (d : List ℕ) (p : ProtectList) (limit : ℕ) (start : Machine) where
   pub under-start : Under d p limit start start 0
   under-start =
       let e : limit - 0 ≡ limit = omega arith in

@@ -6,11 +6,12 @@ use lib.ListN.{set}
 use lib.Dec.{leb}
 use Rattle.hexfloat.specs.declared.word.Width.{Width}
 use Rattle.hexfloat.specs.declared.word.Words.{Words}
+use Rattle.protection.specs.Form.{ProtectList}
 use Rattle.machine.specs.declared.change.Change.{Change}
 use Rattle.machine.specs.declared.state.Registers.{Registers}
 use Rattle.machine.specs.declared.verdict.Effect.{Effect}
+use Rattle.machine.specs.Check.{anyProtected}
 use Rattle.machine.specs.Operand.{floatAt, floatPair, generalAt, wordAt, longAt}
-use Rattle.machine.specs.Protect.{anyProtected}
 
 -- no register above 7
 unfoldable pub registered : Change → Bool
@@ -31,7 +32,7 @@ placed (Change.Two a w) memory = leb (a + 2) memory
 placed (Change.Four a hi lo) memory = leb (a + 4) memory
 
 -- a halfword to be stored is protected
-unfoldable pub guarded : List ℕ → Change → Bool
+unfoldable pub guarded : ProtectList → Change → Bool
 guarded p Change.Nothing = false
 guarded p (Change.Float r w) = false
 guarded p (Change.Pair r hi lo) = false

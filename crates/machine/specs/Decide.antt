@@ -1,6 +1,5 @@
 -- Every check of a step in the table's order, 1, 2, 3, 4, 5, 12, 13, 6, 7 and then 8 to 11 with the effect (document 01, 'Causes and their numbers').
 use Prim.Native.Nat.{ℕ, _+_, _/_, _<_, _≤_}
-use mathlib.Core.Path.{_≡_}
 use mathlib.Core.List.{List}
 use mathlib.Core.Bool.{cond, not}
 use lib.ListN.{length}
@@ -8,49 +7,47 @@ use lib.Dec.{ltb}
 use Rattle.hexfloat.specs.Answer.{Answer, provided, checked, andThen}
 use Rattle.orders.specs.declared.order.Operation.{Operation}
 use Rattle.orders.specs.declared.order.Order.{Order}
+use Rattle.protection.specs.Form.{ProtectList}
 use Rattle.machine.specs.declared.state.Registers.{Registers}
 use Rattle.machine.specs.declared.state.Status.{Status}
 use Rattle.machine.specs.declared.verdict.Effect.{Effect}
 use Rattle.machine.specs.Address.{addressOf}
-use Rattle.machine.specs.Check.{deckSized, buffersSized, stateFormed, present}
+use Rattle.machine.specs.Check.{deckSized, buffersSized, stateFormed, present, anyProtected}
 use Rattle.machine.specs.Effect.{effectOf}
 use Rattle.orders.specs.Order.{legalOf, spanOf, storedOf, isHalt, orderAt}
-use Rattle.machine.specs.Protect.{coverOf, anyProtected}
 
--- the first of 2 and 3 that the table gives for these lengths, this status and this used count, or 0
-unfoldable pub heldStop : ℕ → Status → ℕ → ℕ → ℕ → ℕ
-heldStop protect s used memory journal = cond (buffersSized protect memory journal) (cond (stateFormed s used journal) 0 3) 2
+-- the first of 2 and 3 that the table gives for this protect list, these lengths, this status and this used count, or 0
+unfoldable pub heldStop : ProtectList → Status → ℕ → ℕ → ℕ → ℕ
+heldStop p s used memory journal = cond (buffersSized p memory journal) (cond (stateFormed s used journal) 0 3) 2
 
 -- the first of 1, 2 and 3, or 0
-unfoldable pub entryStop : ℕ → ℕ → Status → ℕ → ℕ → ℕ → ℕ
-entryStop deck protect s used memory journal = cond (deckSized deck) (heldStop protect s used memory journal) 1
+unfoldable pub entryStop : ℕ → ProtectList → Status → ℕ → ℕ → ℕ → ℕ
+entryStop deck p s used memory journal = cond (deckSized deck) (heldStop p s used memory journal) 1
 
 -- checks 6 and 7 of a legal order, then its effect
-abbrev pub accessed : Order → Registers → List ℕ → List ℕ → Operation → Answer Effect
+abbrev pub accessed : Order → Registers → ProtectList → List ℕ → Operation → Answer Effect
 accessed o g p m op =
     provided (present (spanOf op) (addressOf o (g .general)) (length m)) 6
     (provided (not (anyProtected p (addressOf o (g .general)) (storedOf op))) 7
     (effectOf op o g m))
 
 -- checks 12 and 13 before them
-unfoldable pub judged : Order → Registers → ℕ → List ℕ → List ℕ → ℕ → Operation → Answer Effect
+unfoldable pub judged : Order → Registers → ℕ → ProtectList → List ℕ → ℕ → Operation → Answer Effect
 judged o g used p m journal op = provided (not (isHalt (op .verb))) 12 (provided (ltb used (journal / 4)) 13 (accessed o g p m op))
 
-abbrev pub judgedAt : Order → Registers → ℕ → List ℕ → List ℕ → ℕ → Answer Effect
+abbrev pub judgedAt : Order → Registers → ℕ → ProtectList → List ℕ → ℕ → Answer Effect
 judgedAt o g used p m journal = andThen (legalOf o) (judged o g used p m journal)
 
 -- the journal enters by its length alone
-unfoldable pub decided : List ℕ → List ℕ → Registers → ℕ → List ℕ → ℕ → Answer Effect
+unfoldable pub decided : List ℕ → ProtectList → Registers → ℕ → List ℕ → ℕ → Answer Effect
 decided d p g used m journal =
-    checked (entryStop (length d) (length p) (g .status) used (length m) journal)
+    checked (entryStop (length d) p (g .status) used (length m) journal)
     (provided (ltb (g .status .pointer) (length d / 4)) 4
     (judgedAt (orderAt d (g .status .pointer)) g used p m journal))
 
 -- what checks 1 to 5 leave known of a legal order
-pub record Judgeable (op : Operation) (o : Order) (g : Registers) (protect memory : ℕ) : Type 0 where
+pub record Judgeable (op : Operation) (o : Order) (g : Registers) : Type 0 where
   pub first : o .r1 ≤ 7
   pub second : o .r2 ≤ 7
   pub span : spanOf op ≤ 4
-  pub stores : storedOf op ≤ spanOf op
-  pub cover : protect ≡ coverOf memory
   pub onward : g .status .pointer + 1 < 65536

@@ -3,7 +3,6 @@ pub mod Says
 pub mod Status
 pub mod Fresh
 pub mod Address
-pub mod Protect
 pub mod Check
 pub mod Operand
 pub mod Change

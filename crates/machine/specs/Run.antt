@@ -5,6 +5,7 @@ use mathlib.Core.Bool.{cond}
 use lib.ListN.{length}
 use lib.Dec.{eqb}
 use Rattle.hexfloat.specs.Answer.{Answer}
+use Rattle.protection.specs.Form.{ProtectList}
 use Rattle.machine.specs.declared.verdict.Effect.{Effect}
 use Rattle.machine.specs.Decide.{entryStop}
 use Rattle.machine.specs.Machine.{Machine, committed}
@@ -16,15 +17,15 @@ repeated verdict take zero x = outcome x 0 0
 repeated verdict take (suc n) x = onward (verdict x) x (take x) (repeated verdict take n)
 
 -- of the machine
-abbrev pub stepsOf : List ℕ → List ℕ → ℕ → Machine → Outcome Machine
+abbrev pub stepsOf : List ℕ → ProtectList → ℕ → Machine → Outcome Machine
 stepsOf d p n x = repeated (verdictOf d p) (λ y e. committed e y) n x
 
 -- checks 1 to 3 come first, at a limit of 0 too
 abbrev pub admitted : {W : Type 0} → ℕ → W → Outcome W → Outcome W
 admitted k x rest = cond (eqb k 0) rest (outcome x 0 k)
 
-abbrev pub entryOf : List ℕ → List ℕ → Machine → ℕ
-entryOf d p x = entryStop (length d) (length p) (x .state .registers .status) (x .state .used) (length (x .memory)) (length (x .journal))
+abbrev pub entryOf : List ℕ → ProtectList → Machine → ℕ
+entryOf d p x = entryStop (length d) p (x .state .registers .status) (x .state .used) (length (x .memory)) (length (x .journal))
 
-unfoldable pub ran : List ℕ → List ℕ → ℕ → Machine → Outcome Machine
+unfoldable pub ran : List ℕ → ProtectList → ℕ → Machine → Outcome Machine
 ran d p limit x = admitted (entryOf d p x) x (stepsOf d p limit x)

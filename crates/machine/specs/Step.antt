@@ -5,6 +5,7 @@ use mathlib.Core.Bool.{cond}
 use lib.ListN.{length}
 use lib.Dec.{eqb}
 use Rattle.hexfloat.specs.Answer.{Answer, gives, stops}
+use Rattle.protection.specs.Form.{ProtectList}
 use Rattle.machine.specs.declared.verdict.Effect.{Effect}
 use Rattle.machine.specs.Decide.{decided}
 use Rattle.machine.specs.Machine.{Machine, committed}
@@ -31,8 +32,8 @@ abbrev pub onward : {W : Type 0} → Answer Effect → W → (Effect → W) → 
 onward (stops k) x take rest = outcome x 0 k
 onward (gives e) x take rest = counted (rest (take e))
 
-abbrev pub verdictOf : List ℕ → List ℕ → Machine → Answer Effect
+abbrev pub verdictOf : List ℕ → ProtectList → Machine → Answer Effect
 verdictOf d p x = decided d p (x .state .registers) (x .state .used) (x .memory) (length (x .journal))
 
-unfoldable pub stepped : List ℕ → List ℕ → Machine → Outcome Machine
+unfoldable pub stepped : List ℕ → ProtectList → Machine → Outcome Machine
 stepped d p x = onward (verdictOf d p x) x (λ e. committed e x) (λ y. outcome y 0 0)

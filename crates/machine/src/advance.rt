@@ -7,6 +7,7 @@ use crate::state::Status;
 use crate::stop::Stop;
 use crate::verdict::Verdict;
 ghost use mathlib.Core.Path.{_≡_};
+ghost use Rattle.protection.specs.Bits.{bitwise};
 ghost use Rattle.machine.specs.Stops.{numberOf};
 ghost use Rattle.machine.specs.Machine.{machineOf};
 ghost use Rattle.machine.specs.Step.{outcome};
@@ -37,7 +38,7 @@ pub fn advance(
     limit: u32,
 ) -> Advanced
     ensures { λ r. ⌜ outcome (machineOf (now (float .exit)) (now (general .exit)) (r .status) (r .used) (now (memory .exit)) (now (journal .exit))) (r .count) (numberOf (r .stop))
-        ≡ stepsOf (now (deck .entry)) (now (protect .entry)) limit (machineOf (now (float .entry)) (now (general .entry)) start first (now (memory .entry)) (now (journal .entry))) ⌝ }
+        ≡ stepsOf (now (deck .entry)) (bitwise (now (protect .entry))) limit (machineOf (now (float .entry)) (now (general .entry)) start first (now (memory .entry)) (now (journal .entry))) ⌝ }
 {
     let mut status = start;
     let mut used = first;

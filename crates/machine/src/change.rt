@@ -8,6 +8,7 @@ ghost use mathlib.Core.Path.{_≡_};
 ghost use mathlib.Core.Bool.{true};
 ghost use Prim.Native.Nat.{_+_, _≤_};
 ghost use lib.ListN.{length};
+ghost use Rattle.protection.specs.Bits.{bitwise};
 ghost use Rattle.machine.specs.declared.state.Status.{Status};
 ghost use Rattle.machine.specs.Machine.{registers};
 ghost use Rattle.machine.specs.Change.{
@@ -71,8 +72,7 @@ pub fn is_placed(ch: Change, memory: usize) -> bool
 
 // Whether a change would store to a protected halfword.
 pub fn is_guarded(protect: &[u8], ch: Change) -> bool
-    requires { ⌜ placed ch (length (now protect)) ≡ true ⌝ }
-    ensures { λ r. ⌜ r ≡ guarded (now (protect .entry)) ch ⌝ }
+    ensures { λ r. ⌜ r ≡ guarded (bitwise (now (protect .entry))) ch ⌝ }
 {
     match ch {
         Change::Nothing => false,

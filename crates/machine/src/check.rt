@@ -1,17 +1,18 @@
 // Checks 1, 2, 3, 6 and 7.
 use crate::state::Status;
+use protection::cover;
+use protection::is_protected;
 ghost use mathlib.Core.Path.{_≡_};
-ghost use mathlib.Core.Bool.{true};
-ghost use Prim.Native.Nat.{_+_, _≤_, _<_};
-ghost use lib.ListN.{length};
+ghost use Prim.Native.Nat.{_≤_};
 ghost use Rattle.machine.specs.Check.{
   deckSized,
   buffersSized,
   stateFormed,
   present,
+  anyProtected,
 };
+ghost use Rattle.protection.specs.Bits.{bitwise};
 ghost use Rattle.machine.specs.Status.{conditionFormed, statusFormed};
-ghost use Rattle.machine.specs.Protect.{coverOf, isProtected, anyProtected};
 
 // Check 1.
 pub fn deck_sized(deck: usize) -> bool
@@ -23,16 +24,9 @@ pub fn deck_sized(deck: usize) -> bool
     deck <= 16384
 }
 
-// The length of the protect list for a memory of so many halfwords.
-fn cover(memory: usize) -> usize
-    ensures { λ r. ⌜ r ≡ coverOf memory ⌝ }
-{
-    memory
-}
-
 // Check 2.
-pub fn buffers_sized(protect: usize, memory: usize, journal: usize) -> bool
-    ensures { λ r. ⌜ r ≡ buffersSized protect memory journal ⌝ }
+pub fn buffers_sized(protect: &[u8], memory: usize, journal: usize) -> bool
+    ensures { λ r. ⌜ r ≡ buffersSized (bitwise (now (protect .entry))) memory journal ⌝ }
 {
     if 32768 < memory {
         return false;
@@ -40,7 +34,7 @@ pub fn buffers_sized(protect: usize, memory: usize, journal: usize) -> bool
     if 16384 < journal {
         return false;
     }
-    protect == cover(memory)
+    protect.len() == cover(memory)
 }
 
 pub fn condition_formed(condition: u8) -> bool
@@ -86,38 +80,17 @@ pub fn is_present(span: u32, at: u32, memory: usize) -> bool
     end <= memory
 }
 
-// The one place that reads the protect list.
-fn is_protected(protect: &[u8], a: usize) -> bool
-    requires { ⌜ a < length (now protect) ⌝ }
-    ensures { λ r. ⌜ r ≡ isProtected (now (protect .entry)) a ⌝ }
-{
-    protect[a] != 0
-}
-
 // Check 7 for `n` halfwords from `at`.
 pub fn any_protected(protect: &[u8], at: u32, n: u32) -> bool
-    requires { ⌜ present n at (length (now protect)) ≡ true ⌝ }
-    ensures { λ r. ⌜ r ≡ anyProtected (now (protect .entry)) at n ⌝ }
+    ensures { λ r. ⌜ r ≡ anyProtected (bitwise (now (protect .entry))) at n ⌝ }
 {
     let mut a = at as usize;
-    let mut left = n;
-    while 0 < left {
+    let end = a + n as usize;
+    while a < end {
         if is_protected(protect, a) {
             return true;
         }
         a += 1;
-        left -= 1;
     }
     false
-}
-
-// The same for callers that have made no check: a halfword that the list does not have is not protected.
-pub fn protected_at(protect: &[u8], a: u32) -> bool
-    ensures { λ r. ⌜ r ≡ isProtected (now (protect .entry)) a ⌝ }
-{
-    let i = a as usize;
-    if protect.len() <= i {
-        return false;
-    }
-    is_protected(protect, i)
 }

@@ -19,15 +19,15 @@ use orders::legal;
 use orders::span;
 use orders::stored;
 ghost use mathlib.Core.Path.{_≡_};
-ghost use lib.ListN.{length};
+ghost use Rattle.protection.specs.Bits.{bitwise};
 ghost use Rattle.machine.specs.Decide.{heldStop, entryStop, judged, decided, Judgeable};
 ghost use Rattle.machine.specs.Machine.{registers};
 ghost use Rattle.machine.specs.Stops.{numberOf};
 ghost use Rattle.machine.specs.Says.{says};
 
 // Checks 2 and 3: `Taken` where both pass.
-pub fn held(s: Status, used: u32, protect: usize, memory: usize, journal: usize) -> Stop
-    ensures { λ r. ⌜ numberOf r ≡ heldStop protect s used memory journal ⌝ }
+pub fn held(s: Status, used: u32, protect: &[u8], memory: usize, journal: usize) -> Stop
+    ensures { λ r. ⌜ numberOf r ≡ heldStop (bitwise (now (protect .entry))) s used memory journal ⌝ }
 {
     if !buffers_sized(protect, memory, journal) {
         return Stop::BufferSize;
@@ -43,11 +43,11 @@ pub fn entry(
     s: Status,
     used: u32,
     deck: usize,
-    protect: usize,
+    protect: &[u8],
     memory: usize,
     journal: usize,
 ) -> Stop
-    ensures { λ r. ⌜ numberOf r ≡ entryStop deck protect s used memory journal ⌝ }
+    ensures { λ r. ⌜ numberOf r ≡ entryStop deck (bitwise (now (protect .entry))) s used memory journal ⌝ }
 {
     if !deck_sized(deck) {
         return Stop::DeckSize;
@@ -67,9 +67,9 @@ fn judge(
     protect: &[u8],
     journal: usize,
 ) -> Verdict
-    requires { ⌜ Judgeable op o (registers (now float) (now general) status) (length (now protect)) (length (now memory)) ⌝ }
+    requires { ⌜ Judgeable op o (registers (now float) (now general) status) ⌝ }
     ensures { λ v. ⌜ says v
-        ≡ judged o (registers (now (float .entry)) (now (general .entry)) status) used (now (protect .entry)) (now (memory .entry)) journal op ⌝ }
+        ≡ judged o (registers (now (float .entry)) (now (general .entry)) status) used (bitwise (now (protect .entry))) (now (memory .entry)) journal op ⌝ }
 {
     let verb = op.verb;
     let full = used as usize >= journal / 4;
@@ -101,16 +101,9 @@ pub fn decide(
     journal: usize,
 ) -> Verdict
     ensures { λ v. ⌜ says v
-        ≡ decided (now (deck .entry)) (now (protect .entry)) (registers (now (float .entry)) (now (general .entry)) status) used (now (memory .entry)) journal ⌝ }
+        ≡ decided (now (deck .entry)) (bitwise (now (protect .entry))) (registers (now (float .entry)) (now (general .entry)) status) used (now (memory .entry)) journal ⌝ }
 {
-    let k = entry(
-        status,
-        used,
-        deck.len(),
-        protect.len(),
-        memory.len(),
-        journal,
-    );
+    let k = entry(status, used, deck.len(), protect, memory.len(), journal);
     if number(k) != 0 {
         return Verdict::Refused(k);
     }

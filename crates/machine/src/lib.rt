@@ -3,7 +3,7 @@
 // A step decides first and writes afterwards, so a stop leaves everything as it was. What this file
 // exports has no `requires` and one equation with a definition of specs/ as its whole contract; functions
 // between the modules may have a `requires`. `fresh`, `step`, `run` and `back` hand a state back; `entry`,
-// `fetch`, `address` and `protected_at` are for tools that ask and write nothing.
+// `fetch` and `address` are for tools that ask and write nothing.
 mod addressing;
 mod advance;
 mod change;
@@ -23,7 +23,6 @@ mod undoing;
 mod verdict;
 
 pub use addressing::address;
-pub use check::protected_at;
 pub use decide::entry;
 pub use fetching::Fetched;
 pub use fetching::Operands;

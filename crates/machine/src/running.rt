@@ -6,6 +6,7 @@ use crate::state::assemble;
 use crate::stop::Stop;
 use crate::stop::number;
 ghost use mathlib.Core.Path.{_≡_};
+ghost use Rattle.protection.specs.Bits.{bitwise};
 ghost use Rattle.machine.specs.Stops.{numberOf};
 ghost use Rattle.machine.specs.Machine.{machine};
 ghost use Rattle.machine.specs.Step.{outcome};
@@ -27,13 +28,13 @@ pub fn run(
     limit: u32,
 ) -> Ran
     ensures { λ r. ⌜ outcome (machine (r .state) (now (memory .exit)) (now (journal .exit))) (r .count) (numberOf (r .stop))
-        ≡ ran (now (deck .entry)) (now (protect .entry)) limit (machine s (now (memory .entry)) (now (journal .entry))) ⌝ }
+        ≡ ran (now (deck .entry)) (bitwise (now (protect .entry))) limit (machine s (now (memory .entry)) (now (journal .entry))) ⌝ }
 {
     let registers = s.registers;
     let start = registers.status;
     let used = s.used;
     let words = journal.len();
-    let checks = entry(start, used, deck.len(), protect.len(), memory.len(), words);
+    let checks = entry(start, used, deck.len(), protect, memory.len(), words);
     if number(checks) != 0 {
         return Ran {
             state: s,

@@ -4,6 +4,7 @@ use crate::state::State;
 use crate::state::assemble;
 use crate::stop::Stop;
 ghost use mathlib.Core.Path.{_≡_};
+ghost use Rattle.protection.specs.Bits.{bitwise};
 ghost use Rattle.machine.specs.Stops.{numberOf};
 ghost use Rattle.machine.specs.Machine.{machine};
 ghost use Rattle.machine.specs.Step.{single, stepped};
@@ -22,7 +23,7 @@ pub fn step(
     journal: &mut [u32],
 ) -> Stepped
     ensures { λ r. ⌜ single (machine (r .state) (now (memory .exit)) (now (journal .exit))) (numberOf (r .stop))
-        ≡ stepped (now (deck .entry)) (now (protect .entry)) (machine s (now (memory .entry)) (now (journal .entry))) ⌝ }
+        ≡ stepped (now (deck .entry)) (bitwise (now (protect .entry))) (machine s (now (memory .entry)) (now (journal .entry))) ⌝ }
 {
     let registers = s.registers;
     let start = registers.status;

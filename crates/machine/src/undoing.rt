@@ -13,7 +13,7 @@ use crate::stop::number;
 use crate::verdict::Effect;
 use crate::verdict::Verdict;
 ghost use mathlib.Core.Path.{_≡_};
-ghost use lib.ListN.{length};
+ghost use Rattle.protection.specs.Bits.{bitwise};
 ghost use Rattle.machine.specs.Says.{says};
 ghost use Rattle.machine.specs.Stops.{numberOf};
 ghost use Rattle.machine.specs.Machine.{machine};
@@ -22,8 +22,7 @@ ghost use Rattle.machine.specs.Back.{allowed, returning, backed};
 
 // Check 15 of an effect that a record gives: its halfwords are there, and none is protected.
 fn allow(e: Effect, protect: &[u8], memory: usize) -> Verdict
-    requires { ⌜ memory ≡ length (now protect) ⌝ }
-    ensures { λ v. ⌜ says v ≡ allowed e (now (protect .entry)) memory ⌝ }
+    ensures { λ v. ⌜ says v ≡ allowed e (bitwise (now (protect .entry))) memory ⌝ }
 {
     let ch = e.change;
     if !is_placed(ch, memory) {
@@ -38,15 +37,9 @@ fn allow(e: Effect, protect: &[u8], memory: usize) -> Verdict
 
 // Checks 2, 3, 14 and 15, or what the last record puts back.
 fn recall(s: State, memory: usize, protect: &[u8], journal: &[u32]) -> Verdict
-    ensures { λ v. ⌜ says v ≡ returning (now (protect .entry)) s memory (now (journal .entry)) ⌝ }
+    ensures { λ v. ⌜ says v ≡ returning (bitwise (now (protect .entry))) s memory (now (journal .entry)) ⌝ }
 {
-    let k = held(
-        s.registers.status,
-        s.used,
-        protect.len(),
-        memory,
-        journal.len(),
-    );
+    let k = held(s.registers.status, s.used, protect, memory, journal.len());
     if number(k) != 0 {
         return Verdict::Refused(k);
     }
@@ -64,7 +57,7 @@ fn recall(s: State, memory: usize, protect: &[u8], journal: &[u32]) -> Verdict
 // The last step taken back; the journal's words stay.
 pub fn back(s: State, memory: &mut [u16], protect: &[u8], journal: &mut [u32]) -> Stepped
     ensures { λ r. ⌜ outcome (machine (r .state) (now (memory .exit)) (now (journal .exit))) 0 (numberOf (r .stop))
-        ≡ backed (now (protect .entry)) (machine s (now (memory .entry)) (now (journal .entry))) ⌝ }
+        ≡ backed (bitwise (now (protect .entry))) (machine s (now (memory .entry)) (now (journal .entry))) ⌝ }
 {
     let v = recall(s, memory.len(), protect, journal);
     match v {

@@ -4,6 +4,7 @@ use borrow.Author.Needs.{needs}
 use native.Mathlib.Omega.{arith}
 use mathlib.Core.Path.{sym, ap, _∙_}
 use Prim.Native.Nat.{_-_}
+use Rattle.protection.specs.Bits.{bitwise}
 use Rattle.machine.specs.Machine.{machineOf}
 use Rattle.machine.specs.Says.{says}
 use Rattle.machine.proofs.Decided.{committable}
@@ -13,7 +14,7 @@ use Rattle.machine.proofs.advance.advance.Tie as tie
 
 abbrev Inv-loop : tie.InvT-loop
 Inv-loop float₀ general₀ first deck memory₀ protect journal₀ limit status₀ used₀ count₀ float general memory journal status used count =
-    Under deck protect limit (machineOf float₀ general₀ status₀ used₀ memory₀ journal₀) (machineOf float general status used memory journal) count
+    Under deck (bitwise protect) limit (machineOf float₀ general₀ status₀ used₀ memory₀ journal₀) (machineOf float general status used memory journal) count
 
 abbrev μ-loop : tie.MeasureT-loop
 μ-loop float₀ general₀ first deck memory₀ protect journal₀ limit status₀ used₀ count₀ float general memory journal status used count = limit - count

@@ -1,10 +1,7 @@
--- `machine::change::is_guarded` meets its contract: each arm computes its case of `guarded`; what is placed is there to be read.
+-- `machine::change::is_guarded` meets its contract: each arm computes its case of `guarded`.
 -- Assumes nothing.
 use borrow.Author.Needs.{needs}
-use borrow.Author.Tests.{le-leb}
 use Rattle.machine.specs.Change.{guarded}
-use Rattle.machine.specs.Check.{present}
-use Rattle.machine.proofs.Placed.{placed-two, placed-four}
 use Rattle.machine.proofs.change.is_guarded.Statement.{statement}
 use Rattle.machine.proofs.change.is_guarded.Tie as tie
 
@@ -24,15 +21,13 @@ enum-known-ch-4 : tie.Need-enum-known-ch-4
 enum-known-ch-4 c = search needs
 
 any-protected-requires : tie.Need-any-protected-requires
-unfolding present
-any-protected-requires c κs = le-leb _ _ (placed-two (c .before .ch4 .given .1) (c .before .before .before .before .pre))
+any-protected-requires c κs = search needs
 
 enum-known-ch-5 : tie.Need-enum-known-ch-5
 enum-known-ch-5 c = search needs
 
 any-protected-requires-2 : tie.Need-any-protected-requires-2
-unfolding present
-any-protected-requires-2 c κs = le-leb _ _ (placed-four (c .before .ch5 .given .1) (c .before .before .before .before .pre))
+any-protected-requires-2 c κs = search needs
 
 returns : tie.Need-returns
 unfolding guarded

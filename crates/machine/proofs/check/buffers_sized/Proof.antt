@@ -2,6 +2,7 @@
 -- Assumes nothing.
 use borrow.Author.Needs.{needs}
 use borrow.Author.Tests.{le-leb, lt-leb}
+use Rattle.protection.specs.Form.{covers}
 use Rattle.machine.specs.Check.{buffersSized}
 use Rattle.machine.proofs.check.buffers_sized.Statement.{statement}
 use Rattle.machine.proofs.check.buffers_sized.Tie as tie
@@ -18,7 +19,7 @@ cover-requires : tie.Need-cover-requires
 cover-requires c κs = search needs
 
 returns-3 : tie.Need-returns-3
-unfolding buffersSized
+unfolding buffersSized covers
 returns-3 c = rw (le-leb _ 32768 (c .before .before .if1 .left), le-leb _ 16384 (c .before .if2 .left), c .cover .ensures)
 
 pub buffers-sized-spec : {M : Type 1} → statement M

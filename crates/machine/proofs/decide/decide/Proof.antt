@@ -7,7 +7,7 @@ use borrow.Author.Needs.{needs}
 use Rattle.machine.specs.Decide.{decided}
 use Rattle.orders.specs.Order.{saysLegality}
 use Rattle.machine.specs.Stops.{numberOf}
-use Rattle.machine.proofs.Checks.{held, entered}
+use Rattle.machine.proofs.Checks.{entered}
 use Rattle.machine.proofs.Rows.{legal-passed}
 use Rattle.machine.proofs.decide.decide.Statement.{statement}
 use Rattle.machine.proofs.decide.decide.Tie as tie
@@ -56,8 +56,6 @@ judge-requires c κs =
       first = w .first;
       second = w .second;
       span = w .span;
-      stores = w .stored;
-      cover = held _ _ _ _ _ (e .1) .cover;
       onward = omega (arith, e .0 .size, c .before .before .before .before .before .if2 .left);
     }
 

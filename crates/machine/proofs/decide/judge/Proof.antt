@@ -6,7 +6,6 @@ use mathlib.Core.Path.{sym, _∙_}
 use Prim.Native.Nat.{_/_}
 use borrow.Author.Needs.{needs}
 use Rattle.machine.specs.Decide.{judged}
-use Rattle.machine.proofs.Checks.{present-fewer}
 use Rattle.machine.proofs.decide.judge.Statement.{statement}
 use Rattle.machine.proofs.decide.judge.Tie as tie
 
@@ -52,13 +51,7 @@ stored-requires : tie.Need-stored-requires
 stored-requires c κs = search needs
 
 any-protected-requires : tie.Need-any-protected-requires
-any-protected-requires c κs =
-    let there = rw (c .before .before .before .span .ensures) at (sym (c .before .before .is-present .ensures) ∙ not-false (c .before .before .is-present .result) (c .before .if3 .left)) in
-    rw (
-      c .stored .ensures,
-      c .before .before .before .before .before .before .before .before .before .before .pre .cover,
-    )
-    (present-fewer _ _ _ _ (c .before .before .before .before .before .before .before .before .before .before .pre .stores) there)
+any-protected-requires c κs = search needs
 
 returns-4 : tie.Need-returns-4
 unfolding judged

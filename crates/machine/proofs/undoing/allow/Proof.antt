@@ -14,9 +14,7 @@ unfolding allowed
 returns c = rw (← c .before .is-placed .ensures, not-true (c .before .is-placed .result) (c .if1 .taken))
 
 is-guarded-requires : tie.Need-is-guarded-requires
-unfolding allowed
-is-guarded-requires c κs =
-    rw (← c .before .before .before .pre, ← c .before .is-placed .ensures) (not-false (c .before .is-placed .result) (c .if1 .left))
+is-guarded-requires c κs = search needs
 
 returns-2 : tie.Need-returns-2
 unfolding allowed

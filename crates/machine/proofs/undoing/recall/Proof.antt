@@ -49,10 +49,7 @@ enum-known-v-2 : tie.Need-enum-known-v-2
 enum-known-v-2 c = search needs
 
 allow-requires : tie.Need-allow-requires
-allow-requires c κs =
-    let zero = sym (c .before .before .before .before .before .before .before .number .ensures) ∙ c .before .before .before .before .before .before .if1 .left in
-    let h = held _ _ _ _ _ (sym (c .before .before .before .before .before .before .before .before .held .ensures) ∙ zero) in
-    sym (h .cover)
+allow-requires c κs = search needs
 
 returns-3 : tie.Need-returns-3
 unfolding returning
