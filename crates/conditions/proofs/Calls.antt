@@ -3,6 +3,7 @@ use Prim.Native.Nat.{ℕ, zero, suc}
 use mathlib.Core.Path.{_≡_, refl, ap, _∙_}
 use mathlib.Core.List.{List, [], _∷_, _++_}
 use lib.ListN.{replicate}
+use Rattle.protection.specs.Form.{ProtectList}
 use Rattle.machine.specs.Step.{Outcome}
 use Rattle.conditions.specs.Trail.{Call, step, back, Trail, Reply, replyOf, traced, standing, replies, Covered, AllCovered}
 use Rattle.conditions.specs.Theorems.{answer}
@@ -47,7 +48,7 @@ module _ {W : Type 0} (f : Call → W → Outcome W) (k : ℕ) (x : W) where
   reply-last = ap (λ (cs : List Call). replies f cs x) (snoc step k) ∙ replies-append f (forwards k) (step ∷ []) x
 
 -- the calls of a list, and the call after it, none of them left out
-module _ (d p : List ℕ) (journal : ℕ) (c : Call) where
+module _ (d : List ℕ) (p : ProtectList) (journal : ℕ) (c : Call) where
   pub covered-append :
       (cs : List Call) (t : Trail) → AllCovered d p journal (cs ++ (c ∷ [])) t →
       AllCovered d p journal cs t × Covered d p journal c (standing (traced d p journal) cs t)

@@ -8,12 +8,13 @@ use lib.ListN.{length}
 use native.Mathlib.Omega.{arith}
 use borrow.Author.Tests.{eqb-false, ne-eqb}
 use Rattle.hexfloat.specs.Answer.{Answer, gives, stops}
+use Rattle.protection.specs.Form.{ProtectList}
 use Rattle.machine.specs.declared.verdict.Effect.{Effect}
 use Rattle.machine.specs.Run.{repeated}
 use Rattle.machine.specs.Step.{outcome, onward}
 use Rattle.hexfloat.proofs.Answers.{StopsBy}
 use Rattle.machine.proofs.Refusals.{StepNumber}
-use Rattle.conditions.specs.Trail.{Call, step, run, back, Entry, Trail, trail, extended, judgedLast, enteredLast, heldAt, dropped, stepTraced, traced, standing, replies, stepsSaid, backsSaid}
+use Rattle.conditions.specs.Trail.{Call, step, run, back, Entry, Trail, extended, judgedLast, enteredLast, heldAt, dropped, stepTraced, traced, standing, replies, stepsSaid, backsSaid}
 use Rattle.conditions.proofs.Repeats.{judged-by, repeatedLast, run-repeats}
 
 -- no check with the start alone answers 0
@@ -24,7 +25,7 @@ some-number k h = cases (eqb k 0) refl h
     cases true e z = omega arith
     cases false e z = eqb-false k 0 e z
 
-module _ (d p : List ℕ) (journal : ℕ) where
+module _ (d : List ℕ) (p : ProtectList) (journal : ℕ) where
   -- a step adds an entry exactly where its answer is 0
   step-adds :
       (t : Trail) → length (traced d p journal step t .after .earlier) ≡ cond (eqb (traced d p journal step t .stop) 0) 1 0 + length (t .earlier)

@@ -8,6 +8,7 @@ use lib.ListN.{length, getD}
 use native.Mathlib.Omega.{arith}
 use borrow.Author.Tests.{eqb-true, eqb-false}
 use Rattle.hexfloat.specs.Answer.{Answer, gives, stops}
+use Rattle.protection.specs.Form.{ProtectList}
 use Rattle.machine.specs.declared.verdict.Effect.{Effect}
 use Rattle.machine.specs.Run.{repeated}
 use Rattle.machine.specs.Step.{Outcome, outcome, onward}
@@ -22,7 +23,7 @@ unfoldable pub first : Entry → List Entry → Entry
 first x [] = x
 first x (y ∷ ys) = first y ys
 
-module _ (d p : List ℕ) (journal : ℕ) where
+module _ (d : List ℕ) (p : ProtectList) (journal : ℕ) where
   -- no call changes it
   abbrev Begins : Trail → Outcome Trail → Type 0
   Begins t r = first (r .after .last) (r .after .earlier) ≡ first (t .last) (t .earlier)

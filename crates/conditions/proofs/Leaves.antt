@@ -8,6 +8,7 @@ use lib.ListN.{length, replicate}
 use native.Mathlib.Omega.{arith}
 use borrow.Author.Tests.{eqb-false}
 use Rattle.hexfloat.specs.Answer.{Answer, gives, stops}
+use Rattle.protection.specs.Form.{ProtectList}
 use Rattle.machine.specs.declared.verdict.Effect.{Effect}
 use Rattle.machine.specs.Back.{returning, backedBy, backed}
 use Rattle.machine.specs.Machine.{Machine, committed}
@@ -26,7 +27,7 @@ step-cases (stops k) x h = refl
 step-cases (gives e) x h = absurd (h refl)
 
 -- a step that is stopped leaves all
-step-leaves : (d p : List ℕ) (x : Machine) → (stepped d p x .stop ≡ 0 → ⊥) → stepped d p x .after ≡ x
+step-leaves : (d : List ℕ) (p : ProtectList) (x : Machine) → (stepped d p x .stop ≡ 0 → ⊥) → stepped d p x .after ≡ x
 unfolding stepped
 step-leaves d p x h = step-cases (verdictOf d p x) x h
 
@@ -35,12 +36,12 @@ back-cases (stops k) x h = refl
 back-cases (gives e) x h = absurd (h refl)
 
 -- a back step that is refused leaves all
-back-leaves : (p : List ℕ) (x : Machine) → (backed p x .stop ≡ 0 → ⊥) → backed p x .after ≡ x
+back-leaves : (p : ProtectList) (x : Machine) → (backed p x .stop ≡ 0 → ⊥) → backed p x .after ≡ x
 unfolding backed
 back-leaves p x h = back-cases (returning p (x .state) (length (x .memory)) (x .journal)) x h
 
 -- a run keeps exactly the steps that it reports
-module _ (d p : List ℕ) where
+module _ (d : List ℕ) (p : ProtectList) where
   abbrev steps : ℕ → Machine → Outcome Machine
   steps n x = repeated (verdictOf d p) (λ y e. committed e y) n x
 
@@ -99,5 +100,5 @@ module _ (d p : List ℕ) where
       cases true e = steps-keep limit x
       cases false e = stopped-keeps x limit (entryOf d p x) (entry-stops d p x (eqb-false (entryOf d p x) 0 e)) (eqb-false (entryOf d p x) 0 e)
 
-pub leaves-all : (d p : List ℕ) (x : Machine) → LeavesAll d p x
+pub leaves-all : (d : List ℕ) (p : ProtectList) (x : Machine) → LeavesAll d p x
 leaves-all d p x = record { step = step-leaves d p x; back = back-leaves p x; run = λ limit. run-keeps d p limit x }

@@ -1,9 +1,11 @@
 pub mod Calls
 pub mod Counted
 pub mod Entries
+pub mod Keeps
 pub mod Leaves
 pub mod Links
 pub mod Numbers
+pub mod Packed
 pub mod Protected
 pub mod Records
 pub mod Repeats

@@ -6,12 +6,13 @@ use lib.ListN.{length, getD}
 use native.Mathlib.Omega.{arith}
 use borrow.Author.Tests.{ne-eqb}
 use Rattle.hexfloat.specs.Answer.{gives}
+use Rattle.protection.specs.Form.{ProtectList}
 use Rattle.machine.specs.declared.state.State.{State}
 use Rattle.machine.specs.declared.verdict.Effect.{Effect}
 use Rattle.machine.specs.Back.{allowed, returning, backed}
 use Rattle.machine.specs.Change.{memoryAfter}
 use Rattle.machine.specs.Decide.{heldStop, decided}
-use Rattle.machine.specs.Journal.{recordAt, written, encoded, decoded}
+use Rattle.machine.specs.Journal.{recordAt, encoded, decoded}
 use Rattle.machine.specs.Machine.{Machine, machine, stateAfter, beforeOf, committed}
 use Rattle.machine.specs.Step.{outcome}
 use Rattle.conditions.specs.Trail.{Entry, entry, entryAfter}
@@ -29,7 +30,7 @@ undone e x = entry (stateAfter e (x .state .used - 1) (x .state)) (memoryAfter (
 pub record Kept (x : Entry) : Type 0 where
   pub halfwords : Halfwords (x .memory)
 
-module _ (d p : List ℕ) (journal : ℕ) where
+module _ (d : List ℕ) (p : ProtectList) (journal : ℕ) where
   -- x after y
   pub record Link (j : List ℕ) (x y : Entry) : Type 0 where
     pub old : Effect
@@ -77,19 +78,19 @@ module _ (d p : List ℕ) (journal : ℕ) where
     facts : Taken d p (x .state .registers) (x .state .used) (x .memory) journal e
     facts = decided-taken d p (x .state .registers) (x .state .used) (x .memory) journal e taken
 
-    checks : Held (length p) (x .state .registers .status) (x .state .used) (length (x .memory)) journal
+    checks : Held p (x .state .registers .status) (x .state .used) (length (x .memory)) journal
     checks =
-        held (length p) (x .state .registers .status) (x .state .used) (length (x .memory)) journal
-        (entered (length p) (x .state .registers .status) (x .state .used) (length (x .memory)) journal (length d) (facts .entry) .1)
+        held p (x .state .registers .status) (x .state .used) (length (x .memory)) journal
+        (entered p (x .state .registers .status) (x .state .used) (length (x .memory)) journal (length d) (facts .entry) .1)
 
     -- what the record says
     abbrev before : Effect
     before = beforeOf (x .state .registers) (x .memory) e
 
-    still-held : heldStop (length p) (committed e x .state .registers .status) (committed e x .state .used) (length (committed e x .memory)) (length (committed e x .journal)) ≡ 0
+    still-held : heldStop p (committed e x .state .registers .status) (committed e x .state .used) (length (committed e x .memory)) (length (committed e x .journal)) ≡ 0
     still-held =
         rw (memory-length (e .change) (x .memory), written-length (x .journal) (x .state .used) (encoded before), size)
-        (held-zero (length p) (committed e x .state .registers .status) (committed e x .state .used) (length (x .memory)) journal
+        (held-zero p (committed e x .state .registers .status) (committed e x .state .used) (length (x .memory)) journal
         (record {
           memory-size = checks .memory-size;
           journal-size = checks .journal-size;

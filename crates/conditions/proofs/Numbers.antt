@@ -8,6 +8,7 @@ use lib.ListN.{length}
 use native.Mathlib.Omega.{arith}
 use borrow.Author.Tests.{eqb-true, eqb-false}
 use Rattle.hexfloat.specs.Answer.{Answer, gives, stops}
+use Rattle.protection.specs.Form.{ProtectList}
 use Rattle.machine.specs.declared.change.Change.{Change}
 use Rattle.machine.specs.declared.journal.Record.{Record}
 use Rattle.machine.specs.declared.state.State.{State}
@@ -57,16 +58,16 @@ decoded-by q =
     provided-by BackStop (conditionFormed (unpacked (q .head) .condition)) 15 _ breaks
     (mapped-by BackStop (effectFrom (unpacked (q .head))) (changeFrom (q .head / 2 ^ 19) (q .place) (q .left) (q .right)) (change-by _ _ _ _))
 
-allowed-by : (e : Effect) (p : List ℕ) (memory : ℕ) → StopsBy BackStop (allowed e p memory)
+allowed-by : (e : Effect) (p : ProtectList) (memory : ℕ) → StopsBy BackStop (allowed e p memory)
 unfolding allowed
 allowed-by e p memory =
     provided-by BackStop (placed (e .change) memory) 15 _ breaks (provided-by BackStop (not (guarded p (e .change))) 15 (gives e) breaks tt)
 
-returning-by : (p : List ℕ) (s : State) (memory : ℕ) (j : List ℕ) → StopsBy BackStop (returning p s memory j)
+returning-by : (p : ProtectList) (s : State) (memory : ℕ) (j : List ℕ) → StopsBy BackStop (returning p s memory j)
 unfolding returning
 returning-by p s memory j =
-    checked-by BackStop (heldStop (length p) (s .registers .status) (s .used) memory (length j)) _
-    (held-number (length p) (s .registers .status) (s .used) memory (length j) (λ n. (n ≡ 0 → ⊥) → BackStop n) (λ z. absurd (z refl))
+    checked-by BackStop (heldStop p (s .registers .status) (s .used) memory (length j)) _
+    (held-number p (s .registers .status) (s .used) memory (length j) (λ n. (n ≡ 0 → ⊥) → BackStop n) (λ z. absurd (z refl))
     (λ z. record { some = omega arith; number = buffers }) (λ z. record { some = omega arith; number = state }))
     (provided-by BackStop (not (eqb (s .used) 0)) 14 _ (record { some = omega arith; number = nothing })
     (then-by BackStop (decoded (recordAt j (s .used - 1))) (λ e. allowed e p memory) (decoded-by _) (λ e. allowed-by e p memory)))
@@ -93,12 +94,12 @@ module _ (x : Machine) where
   back-number (gives e) s = taken
 
   down :
-      (p : List ℕ) (a : Answer Effect) → returning p (x .state) (length (x .memory)) (x .journal) ≡ a → StopsBy BackStop a →
+      (p : ProtectList) (a : Answer Effect) → returning p (x .state) (length (x .memory)) (x .journal) ≡ a → StopsBy BackStop a →
       backedBy a x .stop ≡ 0 → backedBy a x .after .state .used + 1 ≡ x .state .used
   down p (stops k) t s h = absurd (omega (arith, s .some))
   down p (gives e) t s h = omega (arith, returning-gives p (length (x .memory)) (x .state) (x .journal) e t .used)
 
-module _ (d p : List ℕ) where
+module _ (d : List ℕ) (p : ProtectList) where
   verdict-by : (x : Machine) → StopsBy StepNumber (verdictOf d p x)
   verdict-by x = decided-by d p (x .state .registers) (x .state .used) (x .memory) (length (x .journal))
 

@@ -5,6 +5,7 @@ use mathlib.Core.List.{List}
 use native.Mathlib.Omega.{arith}
 use borrow.Author.Tests.{ne-eqb}
 use Rattle.hexfloat.specs.Answer.{Answer, gives, stops}
+use Rattle.protection.specs.Form.{ProtectList}
 use Rattle.machine.specs.declared.verdict.Effect.{Effect}
 use Rattle.machine.specs.Run.{repeated}
 use Rattle.machine.specs.Step.{Outcome, outcome, onward}
@@ -12,7 +13,7 @@ use Rattle.hexfloat.proofs.Answers.{StopsBy}
 use Rattle.machine.proofs.Refusals.{StepNumber, decided-by}
 use Rattle.conditions.specs.Trail.{Trail, extended, judgedLast, goOn, stepTraced, runTraced}
 
-module _ (d p : List ℕ) (journal : ℕ) where
+module _ (d : List ℕ) (p : ProtectList) (journal : ℕ) where
   -- a step's verdict on the trail stops by 1 to 13
   pub judged-by : (t : Trail) → StopsBy StepNumber (judgedLast d p journal t)
   judged-by t = decided-by d p (t .last .state .registers) (t .last .state .used) (t .last .memory) journal

@@ -6,6 +6,7 @@ use mathlib.Core.List.{List, [], _∷_}
 use lib.ListN.{length, getD, set, length-set}
 use lib.Seq.{set-set, set-comm, set-getD}
 use native.Mathlib.Omega.{arith}
+use Rattle.protection.specs.Form.{ProtectList}
 use Rattle.machine.specs.declared.change.Change.{Change}
 use Rattle.machine.specs.declared.state.Registers.{Registers}
 use Rattle.machine.specs.Change.{registered, placed, guarded, oldOf, floatAfter, generalAfter, putWord, memoryAfter}
@@ -89,7 +90,7 @@ placed-old g m n (Change.General r w) = refl
 placed-old g m n (Change.Two a w) = refl
 placed-old g m n (Change.Four a x y) = refl
 
-pub guarded-old : (g : Registers) (m p : List ℕ) (ch : Change) → guarded p (oldOf g m ch) ≡ guarded p ch
+pub guarded-old : (g : Registers) (m : List ℕ) (p : ProtectList) (ch : Change) → guarded p (oldOf g m ch) ≡ guarded p ch
 unfolding guarded oldOf
 guarded-old g m p Change.Nothing = refl
 guarded-old g m p (Change.Float r w) = refl

@@ -5,6 +5,7 @@ use mathlib.Core.List.{List, [], _∷_, _++_}
 use lib.ListN.{length, getD}
 use native.Mathlib.Omega.{arith}
 use Rattle.hexfloat.specs.Answer.{gives}
+use Rattle.protection.specs.Form.{ProtectList}
 use Rattle.machine.specs.declared.verdict.Effect.{Effect}
 use Rattle.machine.specs.Decide.{decided}
 use Rattle.machine.specs.Machine.{Machine, committed}
@@ -16,7 +17,7 @@ use Rattle.conditions.proofs.Counted.{some-number}
 use Rattle.conditions.proofs.Links.{Link, Walk}
 use Rattle.conditions.proofs.Trail.{Good, Same, trailOf, call-same, good-new, from, steps-covered, stood-entry}
 
-module _ (d p : List ℕ) (journal base : ℕ) where
+module _ (d : List ℕ) (p : ProtectList) (journal base : ℕ) where
   -- one back step where an entry stands before
   back-one :
       (x : Machine) (e : Entry) (es : List Entry) → Good d p journal base x (e ∷ es) →
@@ -126,16 +127,16 @@ module _ (d p : List ℕ) (journal base : ℕ) where
   round (suc k) x (e ∷ es) g h = round-on k x e es g (round k (called d p back x .after) es (back-good k x e es g) (omega arith))
 
 -- the answer of the trail's back step is a stop only with the start alone
-alone-stops : (journal : ℕ) (p : List ℕ) (x : Entry) (es : List Entry) → length es ≡ 0 → dropped p journal x es .stop ≡ 0 → ⊥
+alone-stops : (journal : ℕ) (p : ProtectList) (x : Entry) (es : List Entry) → length es ≡ 0 → dropped p journal x es .stop ≡ 0 → ⊥
 alone-stops journal p x [] h = some-number (heldAt p journal x)
 alone-stops journal p x (e ∷ es) h = absurd (omega arith)
 
-before-takes : (journal : ℕ) (p : List ℕ) (x : Entry) (es : List Entry) → 0 < length es → dropped p journal x es .stop ≡ 0
+before-takes : (journal : ℕ) (p : ProtectList) (x : Entry) (es : List Entry) → 0 < length es → dropped p journal x es .stop ≡ 0
 before-takes journal p x [] h = absurd (omega arith)
 before-takes journal p x (e ∷ es) h = refl
 
 -- after a list of calls that condition 3 covers
-module _ (d p : List ℕ) (x : Machine) (cs : List Call) (typed : Typed (x .memory)) where
+module _ (d : List ℕ) (p : ProtectList) (x : Machine) (cs : List Call) (typed : Typed (x .memory)) where
   -- what the first i steps from the start lead to
   stood :
       Included d p x cs → (i : ℕ) → i ≤ stepsAfter d p cs x →

@@ -1,7 +1,9 @@
 -- Conditions 1 and 3 of the machine, proved of its definitions.
+use Rattle.protection.specs.Bits.{bitwise}
 use Rattle.conditions.specs.Theorems.{Theorems}
 use Rattle.conditions.proofs.Leaves.{leaves-all}
 use Rattle.conditions.proofs.Numbers.{one-of-the-numbers, zero-is-taken}
+use Rattle.conditions.proofs.Packed.{same-over, as-before}
 use Rattle.conditions.proofs.Protected.{protected-keeps}
 use Rattle.conditions.proofs.Records.{read-by-form}
 use Rattle.conditions.proofs.Return.{back-and-forth, refused-at-start}
@@ -14,10 +16,12 @@ theorems = record {
   included = λ d p x cs typed start. included d p x start cs;
   back-and-forth = λ d p x cs k typed v h. back-and-forth d p x cs typed k v h;
   refused-at-start = refused-at-start;
-  protected = λ d p x cs a h. protected-keeps p a h d cs x;
+  protected = λ d p x cs a h. protected-keeps (bitwise p) a h d cs x;
   leaves-all = leaves-all;
   one-of-the-numbers = one-of-the-numbers;
   read-by-form = read-by-form;
   zero-is-taken = zero-is-taken;
   one-record = one-record;
+  same-over = same-over;
+  as-before = as-before;
 }

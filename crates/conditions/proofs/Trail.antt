@@ -9,13 +9,14 @@ use native.Mathlib.Nat.{add-zero}
 use native.Mathlib.Omega.{arith}
 use borrow.Author.Tests.{eqb-true, eqb-false}
 use Rattle.hexfloat.specs.Answer.{Answer, gives, stops, provided, checked}
+use Rattle.protection.specs.Form.{ProtectList}
 use Rattle.machine.specs.declared.verdict.Effect.{Effect}
 use Rattle.machine.specs.Back.{returning, backed}
 use Rattle.machine.specs.Decide.{entryStop, decided}
-use Rattle.machine.specs.Machine.{Machine, machine, committed}
+use Rattle.machine.specs.Machine.{Machine, committed}
 use Rattle.machine.specs.Run.{repeated, admitted, ran}
 use Rattle.machine.specs.Step.{Outcome, outcome, onward, verdictOf, stepped}
-use Rattle.conditions.specs.Trail.{Call, step, run, back, Entry, entry, Trail, trail, extended, judgedLast, heldAt, dropped, stepTraced, traced, called, standing, replies, Behind, Covered, AllCovered}
+use Rattle.conditions.specs.Trail.{Call, step, run, back, Entry, Trail, trail, extended, judgedLast, heldAt, dropped, stepTraced, traced, called, standing, replies, Behind, Covered, AllCovered}
 use Rattle.conditions.specs.Theorems.{Typed, wholeOf, startOf, machineAfter, trailAfter, stepsAfter, Included, AsTrail}
 use Rattle.conditions.proofs.Calls.{forwards, stepsTaken}
 use Rattle.conditions.proofs.Entries.{first, call-begins, begins, entries, entries-taken, prefix}
@@ -41,7 +42,7 @@ first-check k used rest h = cases (eqb k 0) (eqb used 0) refl refl
         some z = omega arith
     cases false b e f = refl
 
-module _ (d p : List ℕ) (journal base : ℕ) where
+module _ (d : List ℕ) (p : ProtectList) (journal base : ℕ) where
   -- a machine and the entries before where it is; base is the used count at the start
   pub record Good (x : Machine) (es : List Entry) : Type 0 where
     pub kept : Kept (wholeOf x)
@@ -140,7 +141,7 @@ module _ (d p : List ℕ) (journal base : ℕ) where
   call-same step x es g v = onward-same x es g (λ y. outcome y 0 0) (λ u. outcome u 0 0) (λ y fs h. here y fs 0 0 h)
   call-same (run n) x es g v =
       rw (g .size, run-repeats d p journal n (trailOf x es))
-      (admitted-same (entryStop (length d) (length p) (x .state .registers .status) (x .state .used) (length (x .memory)) journal) x es g _ _ (repeated-same n x es g))
+      (admitted-same (entryStop (length d) p (x .state .registers .status) (x .state .used) (length (x .memory)) journal) x es g _ _ (repeated-same n x es g))
   call-same back x es g v = back-same x es g v
 
   -- a list of calls from x and from a trail
@@ -162,12 +163,12 @@ module _ (d p : List ℕ) (journal base : ℕ) where
       record { answers = rw (s .taken, s .stop, f .answers); last = f .last; good = f .good }
 
 -- steps are never left out
-pub steps-covered : (d p : List ℕ) (journal i : ℕ) (t : Trail) → AllCovered d p journal (forwards i) t
+pub steps-covered : (d : List ℕ) (p : ProtectList) (journal i : ℕ) (t : Trail) → AllCovered d p journal (forwards i) t
 unfolding AllCovered
 steps-covered d p journal zero t = tt
 steps-covered d p journal (suc i) t = (tt, steps-covered d p journal i (traced d p journal step t .after))
 
-module _ (d p : List ℕ) (cs : List Call) (x : Machine) (typed : Typed (x .memory)) (covered : AllCovered d p (length (x .journal)) cs (startOf x)) where
+module _ (d : List ℕ) (p : ProtectList) (cs : List Call) (x : Machine) (typed : Typed (x .memory)) (covered : AllCovered d p (length (x .journal)) cs (startOf x)) where
   pub from : From d p (length (x .journal)) (x .state .used) cs x (startOf x)
   unfolding Walk
   from =
@@ -207,7 +208,7 @@ module _ (d p : List ℕ) (cs : List Call) (x : Machine) (typed : Typed (x .memo
       ∙ entries-taken d p (length (x .journal)) (machineAfter d p cs x .journal) (trailAfter d p cs x .last) (trailAfter d p cs x .earlier) walked
 
 -- the single claim about a list of calls
-pub as-trail : (d p : List ℕ) (x : Machine) (cs : List Call) → Typed (x .memory) → Included d p x cs → AsTrail d p x cs
+pub as-trail : (d : List ℕ) (p : ProtectList) (x : Machine) (cs : List Call) → Typed (x .memory) → Included d p x cs → AsTrail d p x cs
 as-trail d p x cs t v =
     let f = from d p cs x t v in
     let n = stepsAfter d p cs x in
@@ -223,7 +224,7 @@ as-trail d p x cs t v =
     }
 
 -- the start alone decides what is left out: where no step stands, the last entry is the start
-module _ (d p : List ℕ) (x : Machine) (start : Behind p (length (x .journal)) (startOf x) → ⊥) where
+module _ (d : List ℕ) (p : ProtectList) (x : Machine) (start : Behind p (length (x .journal)) (startOf x) → ⊥) where
   back-covered : (e : Entry) (es : List Entry) → first e es ≡ wholeOf x → Behind p (length (x .journal)) (trail e es) → ⊥
   unfolding first
   back-covered e [] h b =

@@ -1,4 +1,4 @@
--- What is proved of the calls, in the words of conditions 1 and 3 (document 01, 'Journal and back steps'), for every deck d, protect list p,
+-- What is proved of the calls, in the words of conditions 1 and 3 (document 01, 'Journal and back steps'), for every deck d, protect list p in any form,
 -- machine x and list of calls. The proofs are in proofs/Theorems.antt.
 use Prim.Native.Nat.{ℕ, _+_, _-_, _*_, _<_, _≤_}
 use mathlib.Core.Path.{_≡_}
@@ -6,12 +6,15 @@ use mathlib.Core.List.{List, [], _∷_, _++_}
 use mathlib.Core.Bool.{true}
 use lib.ListN.{length, getD, replicate}
 use Rattle.hexfloat.specs.Answer.{gives}
+use Rattle.protection.specs.Form.{ProtectList, isProtected}
+use Rattle.protection.specs.Bits.{bitForm, bitwise}
+use Rattle.protection.specs.Bytes.{byteForm, bytewise, unpacked}
+use Rattle.protection.specs.Theorems.{Alike}
 use Rattle.machine.specs.declared.verdict.Effect.{Effect}
 use Rattle.machine.specs.Back.{backed}
 use Rattle.machine.specs.declared.journal.Record.{Record}
 use Rattle.machine.specs.Journal.{recordAt, encoded, decoded, Recordable}
 use Rattle.machine.specs.Machine.{Machine, machine, beforeOf, committed}
-use Rattle.machine.specs.Protect.{isProtected}
 use Rattle.machine.specs.Run.{ran}
 use Rattle.machine.specs.Step.{Outcome, outcome, verdictOf, stepped}
 use Rattle.conditions.specs.Trail.{Call, step, back, Entry, entry, Trail, trail, Reply, traced, called, standing, replies, stepsSaid, backsSaid, countSaid, Behind, AllCovered}
@@ -29,31 +32,31 @@ abbrev pub startOf : Machine → Trail
 startOf x = trail (wholeOf x) []
 
 -- what stands after the calls: the machine, and the trail, which is fed the journal's length and no word of it
-abbrev pub machineAfter : List ℕ → List ℕ → List Call → Machine → Machine
+abbrev pub machineAfter : List ℕ → ProtectList → List Call → Machine → Machine
 machineAfter d p cs x = standing (called d p) cs x
 
-abbrev pub trailAfter : List ℕ → List ℕ → List Call → Machine → Trail
+abbrev pub trailAfter : List ℕ → ProtectList → List Call → Machine → Trail
 trailAfter d p cs x = standing (traced d p (length (x .journal))) cs (startOf x)
 
 -- the entries less one
-abbrev pub stepsAfter : List ℕ → List ℕ → List Call → Machine → ℕ
+abbrev pub stepsAfter : List ℕ → ProtectList → List Call → Machine → ℕ
 stepsAfter d p cs x = length (trailAfter d p cs x .earlier)
 
 -- what stands after k times the same call
-abbrev pub times : List ℕ → List ℕ → ℕ → Call → Machine → Machine
+abbrev pub times : List ℕ → ProtectList → ℕ → Call → Machine → Machine
 times d p k c x = machineAfter d p (replicate k c) x
 
 abbrev pub answer : ℕ → ℕ → Reply
 answer taken stop = record { taken = taken; stop = stop }
 
 -- no call of the list is the one that is left out
-abbrev pub Included : List ℕ → List ℕ → Machine → List Call → Type 0
+abbrev pub Included : List ℕ → ProtectList → Machine → List Call → Type 0
 Included d p x cs = AllCovered d p (length (x .journal)) cs (startOf x)
 
 -- Condition 3, a single claim about the list: each answer is the trail's; state and memory are the last entry; n, the steps answered as taken and
 -- the counts that runs report less the back steps not refused, is the entries less one; the entries are those of n steps from the start, each of
 -- them taken; the used count has gone up by n.
-pub record AsTrail (d p : List ℕ) (x : Machine) (cs : List Call) : Type 0 where
+pub record AsTrail (d : List ℕ) (p : ProtectList) (x : Machine) (cs : List Call) : Type 0 where
   pub answers : replies (called d p) cs x ≡ replies (traced d p (length (x .journal))) cs (startOf x)
   pub last : wholeOf (machineAfter d p cs x) ≡ trailAfter d p cs x .last
   pub enough : backsSaid cs (replies (called d p) cs x) ≤ stepsSaid cs (replies (called d p) cs x)
@@ -63,20 +66,20 @@ pub record AsTrail (d p : List ℕ) (x : Machine) (cs : List Call) : Type 0 wher
   pub used : machineAfter d p cs x .state .used ≡ x .state .used + stepsAfter d p cs x
 
 -- k back steps find the state and memory after the first n - k steps, and k steps forward again find what stood after all n; none is refused.
-pub record BackAndForth (d p : List ℕ) (x : Machine) (cs : List Call) (k : ℕ) : Type 0 where
+pub record BackAndForth (d : List ℕ) (p : ProtectList) (x : Machine) (cs : List Call) (k : ℕ) : Type 0 where
   pub backs : replies (called d p) (replicate k back) (machineAfter d p cs x) ≡ replicate k (answer 0 0)
   pub found : wholeOf (times d p k back (machineAfter d p cs x)) ≡ wholeOf (times d p (stepsAfter d p cs x - k) step x)
   pub steps : replies (called d p) (replicate k step) (times d p k back (machineAfter d p cs x)) ≡ replicate k (answer 1 0)
   pub again : wholeOf (times d p k step (times d p k back (machineAfter d p cs x))) ≡ wholeOf (machineAfter d p cs x)
 
 -- A back step is refused exactly when n is 0 before it.
-pub record RefusedAtStart (d p : List ℕ) (x : Machine) (cs : List Call) : Type 0 where
+pub record RefusedAtStart (d : List ℕ) (p : ProtectList) (x : Machine) (cs : List Call) : Type 0 where
   pub refused : stepsAfter d p cs x ≡ 0 → called d p back (machineAfter d p cs x) .stop ≡ 0 → ⊥
   pub taken : 0 < stepsAfter d p cs x → called d p back (machineAfter d p cs x) .stop ≡ 0
 
 -- A run keeps exactly the steps that it reports, each of them taken and no more than its limit; without a stop they are its limit, and where it
 -- stops, it stops as the next step would.
-pub record KeepsSteps (d p : List ℕ) (x : Machine) (limit : ℕ) (r : Outcome Machine) : Type 0 where
+pub record KeepsSteps (d : List ℕ) (p : ProtectList) (x : Machine) (limit : ℕ) (r : Outcome Machine) : Type 0 where
   pub kept : r .after ≡ times d p (r .taken) step x
   pub taken : replies (called d p) (replicate (r .taken) step) x ≡ replicate (r .taken) (answer 1 0)
   pub within : r .taken ≤ limit
@@ -84,7 +87,7 @@ pub record KeepsSteps (d p : List ℕ) (x : Machine) (limit : ℕ) (r : Outcome 
   pub stopped : (r .stop ≡ 0 → ⊥) → stepped d p (r .after) ≡ outcome (r .after) 0 (r .stop)
 
 -- Condition 1: a refused call leaves state, memory and journal as they were; a run, as the steps that it reports left them.
-pub record LeavesAll (d p : List ℕ) (x : Machine) : Type 0 where
+pub record LeavesAll (d : List ℕ) (p : ProtectList) (x : Machine) : Type 0 where
   pub step : (stepped d p x .stop ≡ 0 → ⊥) → stepped d p x .after ≡ x
   pub back : (backed p x .stop ≡ 0 → ⊥) → backed p x .after ≡ x
   pub run : (limit : ℕ) → KeepsSteps d p x limit (ran d p limit x)
@@ -98,7 +101,7 @@ pub data BackNumber : ℕ → Type 0 where
   broken : BackNumber 15
 
 -- Condition 1: every call answers 0 or one of the numbers of document 01: a step and a run 1 to 13, a back step 2, 3, 14 or 15.
-pub record OneOfTheNumbers (d p : List ℕ) (x : Machine) : Type 0 where
+pub record OneOfTheNumbers (d : List ℕ) (p : ProtectList) (x : Machine) : Type 0 where
   pub step : stepped d p x .stop ≤ 13
   pub run : (limit : ℕ) → ran d p limit x .stop ≤ 13
   pub back : BackNumber (backed p x .stop)
@@ -111,14 +114,14 @@ pub record ReadByForm (q : Record) (e : Effect) : Type 0 where
 
 -- 0 is the answer of a call that was taken and of no other: a step then counts as one and the used count goes up by one, or down by one at a
 -- back step.
-pub record ZeroIsTaken (d p : List ℕ) (x : Machine) : Type 0 where
+pub record ZeroIsTaken (d : List ℕ) (p : ProtectList) (x : Machine) : Type 0 where
   pub counts : stepped d p x .stop ≡ 0 → stepped d p x .taken ≡ 1
   pub step : stepped d p x .stop ≡ 0 → stepped d p x .after .state .used ≡ x .state .used + 1
   pub back : backed p x .stop ≡ 0 → backed p x .after .state .used + 1 ≡ x .state .used
 
 -- A taken step writes one record, at the used count, which goes up by one, and no other journal word; a back step after it puts everything back
 -- and lowers the used count, and journal words stay.
-pub record OneRecord (p : List ℕ) (x : Machine) (e : Effect) : Type 0 where
+pub record OneRecord (p : ProtectList) (x : Machine) (e : Effect) : Type 0 where
   pub used : committed e x .state .used ≡ x .state .used + 1
   pub words : length (committed e x .journal) ≡ length (x .journal)
   pub saved : recordAt (committed e x .journal) (x .state .used) ≡ encoded (beforeOf (x .state .registers) (x .memory) e)
@@ -126,19 +129,39 @@ pub record OneRecord (p : List ℕ) (x : Machine) (e : Effect) : Type 0 where
   pub above : (i : ℕ) → x .state .used * 4 + 4 ≤ i → getD (committed e x .journal) i 0 ≡ getD (x .journal) i 0
   pub back : backed p (committed e x) ≡ outcome (machine (x .state) (x .memory) (committed e x .journal)) 0 0
 
+-- The protect list enters by what it says of memory's halfwords and by nothing else: over two lists that say the same of them, every call has the same
+-- answer and leaves the same state, memory and journal, and so has every list of calls.
+pub record SameOver (d : List ℕ) (p q : ProtectList) (x : Machine) : Type 0 where
+  pub call : (c : Call) → called d p c x ≡ called d q c x
+  pub answers : (cs : List Call) → replies (called d p) cs x ≡ replies (called d q) cs x
+  pub after : (cs : List Call) → machineAfter d p cs x ≡ machineAfter d q cs x
+
+-- Packed protect lists (document 02, Job 6): a list of the length that memory wants gives what the form before gave over the list that it stands for; one of
+-- another length is refused as one of another length was; and the bits past the end of memory change nothing.
+pub record AsBefore (d p : List ℕ) (x : Machine) : Type 0 where
+  pub packed : length p ≡ bitForm .coverOf (length (x .memory)) → SameOver d (bitwise p) (bytewise (unpacked (length (x .memory)) p)) x
+  pub other-length :
+      (q : List ℕ) → (length p ≡ bitForm .coverOf (length (x .memory)) → ⊥) → (length q ≡ byteForm .coverOf (length (x .memory)) → ⊥) →
+      SameOver d (bitwise p) (bytewise q) x
+  pub past-the-end :
+      (q : List ℕ) → length p ≡ length q → ((a : ℕ) → a < length (x .memory) → isProtected (bitwise p) a ≡ isProtected (bitwise q) a) →
+      SameOver d (bitwise p) (bitwise q) x
+
 pub record Theorems : Type 0 where
-  pub as-trail : (d p : List ℕ) (x : Machine) (cs : List Call) → Typed (x .memory) → Included d p x cs → AsTrail d p x cs
+  pub as-trail : (d : List ℕ) (p : ProtectList) (x : Machine) (cs : List Call) → Typed (x .memory) → Included d p x cs → AsTrail d p x cs
   -- the start alone decides: unless a back step there is the call that is left out, every list is included
-  pub included : (d p : List ℕ) (x : Machine) (cs : List Call) → Typed (x .memory) → (Behind p (length (x .journal)) (startOf x) → ⊥) → Included d p x cs
+  pub included : (d : List ℕ) (p : ProtectList) (x : Machine) (cs : List Call) → Typed (x .memory) → (Behind p (length (x .journal)) (startOf x) → ⊥) → Included d p x cs
   pub back-and-forth :
-      (d p : List ℕ) (x : Machine) (cs : List Call) (k : ℕ) → Typed (x .memory) → Included d p x cs → k ≤ stepsAfter d p cs x → BackAndForth d p x cs k
+      (d : List ℕ) (p : ProtectList) (x : Machine) (cs : List Call) (k : ℕ) → Typed (x .memory) → Included d p x cs → k ≤ stepsAfter d p cs x → BackAndForth d p x cs k
   pub refused-at-start :
-      (d p : List ℕ) (x : Machine) (cs : List Call) → Typed (x .memory) → Included d p x (cs ++ back ∷ []) → RefusedAtStart d p x cs
-  -- every halfword whose protect byte is not 0 is as at the start throughout
+      (d : List ℕ) (p : ProtectList) (x : Machine) (cs : List Call) → Typed (x .memory) → Included d p x (cs ++ back ∷ []) → RefusedAtStart d p x cs
+  -- every halfword whose bit is set in the packed list is as at the start throughout
   pub protected :
-      (d p : List ℕ) (x : Machine) (cs : List Call) (a : ℕ) → isProtected p a ≡ true → getD (machineAfter d p cs x .memory) a 0 ≡ getD (x .memory) a 0
-  pub leaves-all : (d p : List ℕ) (x : Machine) → LeavesAll d p x
-  pub one-of-the-numbers : (d p : List ℕ) (x : Machine) → OneOfTheNumbers d p x
+      (d p : List ℕ) (x : Machine) (cs : List Call) (a : ℕ) → isProtected (bitwise p) a ≡ true → getD (machineAfter d (bitwise p) cs x .memory) a 0 ≡ getD (x .memory) a 0
+  pub leaves-all : (d : List ℕ) (p : ProtectList) (x : Machine) → LeavesAll d p x
+  pub one-of-the-numbers : (d : List ℕ) (p : ProtectList) (x : Machine) → OneOfTheNumbers d p x
   pub read-by-form : (q : Record) (e : Effect) → ReadByForm q e
-  pub zero-is-taken : (d p : List ℕ) (x : Machine) → ZeroIsTaken d p x
-  pub one-record : (d p : List ℕ) (x : Machine) (e : Effect) → Typed (x .memory) → verdictOf d p x ≡ gives e → OneRecord p x e
+  pub zero-is-taken : (d : List ℕ) (p : ProtectList) (x : Machine) → ZeroIsTaken d p x
+  pub one-record : (d : List ℕ) (p : ProtectList) (x : Machine) (e : Effect) → Typed (x .memory) → verdictOf d p x ≡ gives e → OneRecord p x e
+  pub same-over : (d : List ℕ) (p q : ProtectList) (x : Machine) → Alike (length (x .memory)) p q → SameOver d p q x
+  pub as-before : (d p : List ℕ) (x : Machine) → AsBefore d p x

@@ -7,6 +7,7 @@ use mathlib.Core.Bool.{cond}
 use lib.ListN.{length}
 use lib.Dec.{eqb}
 use Rattle.hexfloat.specs.Answer.{Answer}
+use Rattle.protection.specs.Form.{ProtectList}
 use Rattle.machine.specs.declared.state.State.{State}
 use Rattle.machine.specs.declared.verdict.Effect.{Effect}
 use Rattle.machine.specs.Back.{backed}
@@ -45,23 +46,23 @@ abbrev pub extended : Effect → Trail → Trail
 extended e t = trail (entryAfter e (t .last)) (t .last ∷ t .earlier)
 
 -- condition 2 at the last entry
-abbrev pub judgedLast : List ℕ → List ℕ → ℕ → Trail → Answer Effect
+abbrev pub judgedLast : List ℕ → ProtectList → ℕ → Trail → Answer Effect
 judgedLast d p journal t = decided d p (t .last .state .registers) (t .last .state .used) (t .last .memory) journal
 
-abbrev pub enteredLast : List ℕ → List ℕ → ℕ → Trail → ℕ
-enteredLast d p journal t = entryStop (length d) (length p) (t .last .state .registers .status) (t .last .state .used) (length (t .last .memory)) journal
+abbrev pub enteredLast : List ℕ → ProtectList → ℕ → Trail → ℕ
+enteredLast d p journal t = entryStop (length d) p (t .last .state .registers .status) (t .last .state .used) (length (t .last .memory)) journal
 
 -- the first of 2 and 3 that the table gives at an entry, or 0
-abbrev pub heldAt : List ℕ → ℕ → Entry → ℕ
-heldAt p journal x = heldStop (length p) (x .state .registers .status) (x .state .used) (length (x .memory)) journal
+abbrev pub heldAt : ProtectList → ℕ → Entry → ℕ
+heldAt p journal x = heldStop p (x .state .registers .status) (x .state .used) (length (x .memory)) journal
 
 -- the last entry is dropped; with the start alone nothing is, and the answer is the first of 2, 3, 14
-abbrev pub dropped : List ℕ → ℕ → Entry → List Entry → Outcome Trail
+abbrev pub dropped : ProtectList → ℕ → Entry → List Entry → Outcome Trail
 dropped p journal x [] = outcome (trail x []) 0 (cond (eqb (heldAt p journal x) 0) 14 (heldAt p journal x))
 dropped p journal x (y ∷ ys) = outcome (trail y ys) 0 0
 
 -- a step: if it is taken its outcome is the next entry, else no entry comes
-unfoldable pub stepTraced : List ℕ → List ℕ → ℕ → Trail → Outcome Trail
+unfoldable pub stepTraced : List ℕ → ProtectList → ℕ → Trail → Outcome Trail
 stepTraced d p journal t = onward (judgedLast d p journal t) t (λ e. extended e t) (λ u. outcome u 0 0)
 
 -- after a step that was taken the rest follows, and its entries are added to the step's; a stop ends it
@@ -70,18 +71,18 @@ goOn r rest =
     cond (eqb (r .stop) 0) (outcome (rest (r .after) .after) (r .taken + rest (r .after) .taken) (rest (r .after) .stop)) r
 
 -- a run repeats this until its limit, which is looked at first, or a stop
-unfoldable pub runTraced : List ℕ → List ℕ → ℕ → ℕ → Trail → Outcome Trail
+unfoldable pub runTraced : List ℕ → ProtectList → ℕ → ℕ → Trail → Outcome Trail
 runTraced d p journal zero t = outcome t 0 0
 runTraced d p journal (suc n) t = goOn (stepTraced d p journal t) (runTraced d p journal n)
 
 -- checks 1 to 3 come first in a run, at a limit of 0 too
-unfoldable pub traced : List ℕ → List ℕ → ℕ → Call → Trail → Outcome Trail
+unfoldable pub traced : List ℕ → ProtectList → ℕ → Call → Trail → Outcome Trail
 traced d p journal step t = stepTraced d p journal t
 traced d p journal (run n) t = admitted (enteredLast d p journal t) t (runTraced d p journal n t)
 traced d p journal back t = dropped p journal (t .last) (t .earlier)
 
 -- the same calls of the machine
-unfoldable pub called : List ℕ → List ℕ → Call → Machine → Outcome Machine
+unfoldable pub called : List ℕ → ProtectList → Call → Machine → Outcome Machine
 called d p step x = stepped d p x
 called d p (run n) x = ran d p n x
 called d p back x = backed p x
@@ -124,17 +125,17 @@ abbrev pub countSaid : List Call → List Reply → ℕ
 countSaid cs rs = stepsSaid cs rs - backsSaid cs rs
 
 -- the one call that is left out: a back step with the start alone that passes checks 2 and 3 and finds records in use
-pub record Behind (p : List ℕ) (journal : ℕ) (t : Trail) : Type 0 where
+pub record Behind (p : ProtectList) (journal : ℕ) (t : Trail) : Type 0 where
   pub alone : t .earlier ≡ []
   pub passes : heldAt p journal (t .last) ≡ 0
   pub records : 0 < t .last .state .used
 
-abbrev pub Covered : List ℕ → List ℕ → ℕ → Call → Trail → Type 0
+abbrev pub Covered : List ℕ → ProtectList → ℕ → Call → Trail → Type 0
 Covered d p journal step t = Unit {0}
 Covered d p journal (run n) t = Unit {0}
 Covered d p journal back t = Behind p journal t → ⊥
 
 -- no call of the list is left out
-unfoldable pub AllCovered : List ℕ → List ℕ → ℕ → List Call → Trail → Type 0
+unfoldable pub AllCovered : List ℕ → ProtectList → ℕ → List Call → Trail → Type 0
 AllCovered d p journal [] t = Unit {0}
 AllCovered d p journal (c ∷ cs) t = Covered d p journal c t × AllCovered d p journal cs (traced d p journal c t .after)
