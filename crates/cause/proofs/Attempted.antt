@@ -4,6 +4,7 @@ use mathlib.Core.Path.{_≡_, refl, sym, ap, _∙_}
 use mathlib.Core.List.{List}
 use mathlib.Core.Bool.{true, false, _&&_}
 use lib.Dec.{leb}
+use lib.ListN.{getD, replicate}
 use native.Mathlib.Omega.{arith}
 use borrow.Author.Tests.{le-leb}
 use Rattle.hexfloat.specs.declared.word.Width.{Width}
@@ -13,18 +14,19 @@ use Rattle.orders.specs.declared.order.Operation.{Operation}
 use Rattle.orders.specs.declared.order.Order.{Order}
 use Rattle.orders.specs.declared.order.Place.{Place}
 use Rattle.orders.specs.Order.{operationOf, withinLimits, legalOf, spanOf, storedOf}
+use Rattle.protection.specs.Form.{ProtectList, covers, isProtected}
 use Rattle.machine.specs.declared.state.Registers.{Registers}
 use Rattle.machine.specs.declared.verdict.Effect.{Effect}
 use Rattle.machine.specs.Address.{addressOf}
-use Rattle.machine.specs.Check.{deckSized, buffersSized, stateFormed, present}
+use Rattle.machine.specs.Check.{deckSized, buffersSized, stateFormed, present, anyProtected}
 use Rattle.machine.specs.Decide.{heldStop, entryStop, judged, decided}
 use Rattle.machine.specs.Effect.{effectOf}
 use Rattle.machine.specs.Machine.{Machine, committed}
 use Rattle.machine.specs.Operand.{wordAt, storageOperand, secondOperand}
-use Rattle.machine.specs.Protect.{isProtected, anyProtected}
 use Rattle.machine.specs.Status.{conditionFormed, statusFormed}
 use Rattle.machine.specs.Step.{outcome, onward, verdictOf, stepped}
 use Rattle.hexfloat.proofs.Answers.{provided-gives, then-gives}
+use Rattle.protection.proofs.Bits.{no-bits}
 use Rattle.machine.proofs.Checks.{both, present-fewer}
 use Rattle.machine.proofs.Rows.{legal-passed}
 use Rattle.cause.specs.Arithmetic.{stopIn, stopByRow, stopBy}
@@ -33,7 +35,7 @@ use Rattle.cause.specs.Theorems.{wordsIn}
 use Rattle.cause.proofs.Arithmetic.{effect-stop}
 
 -- the number of the verdict is that of the step
-pub step-number : (d p : List ℕ) (x : Machine) → stepped d p x .stop ≡ stopIn (verdictOf d p x)
+pub step-number : (d : List ℕ) (p : ProtectList) (x : Machine) → stepped d p x .stop ≡ stopIn (verdictOf d p x)
 unfolding stepped
 step-number d p x = cases (verdictOf d p x)
   where
@@ -75,16 +77,16 @@ all-there span h = present-fewer span 4 0 4 h refl
 
 -- and none is protected
 none-protected : (a n : ℕ) → anyProtected attemptProtect a n ≡ false
-unfolding anyProtected
+unfolding anyProtected isProtected
 none-protected a zero = refl
 none-protected a (suc n) = rw (free a) (none-protected (a + 1) n)
   where
+    blank : (i : ℕ) → _≡_ {A = ℕ} (getD (replicate 1 0) i 0) 0
+    blank zero = refl
+    blank (suc i) = refl
+
     free : (b : ℕ) → isProtected attemptProtect b ≡ false
-    free zero = refl
-    free (suc zero) = refl
-    free (suc (suc zero)) = refl
-    free (suc (suc (suc zero))) = refl
-    free (suc (suc (suc (suc b)))) = refl
+    free b = rw (blank (b / 8)) (no-bits b)
 
 module _ (op : Operation) (o : Order) (g : Registers) (m : List ℕ) (h : Accessible op o g) where
   abbrev x : Machine
@@ -95,7 +97,7 @@ module _ (op : Operation) (o : Order) (g : Registers) (m : List ℕ) (h : Access
 
   -- every check before the arithmetic passes
   checks-pass : verdictOf (attemptDeck o) attemptProtect x ≡ effectOf op (moved o) bare (x .memory)
-  unfolding decided entryStop heldStop deckSized buffersSized stateFormed statusFormed conditionFormed judged
+  unfolding decided entryStop heldStop deckSized buffersSized covers stateFormed statusFormed conditionFormed judged
   checks-pass =
       rw (
         le-leb (g .status .mask) 1 (h .mask),

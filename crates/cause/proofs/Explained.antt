@@ -2,7 +2,7 @@
 use Prim.Native.Nat.{ℕ, _+_, _<_, _≤_}
 use mathlib.Core.Path.{_≡_, refl, sym, ap, _∙_}
 use mathlib.Core.List.{List, [], _∷_}
-use mathlib.Core.Bool.{Bool, true, false, cond, not}
+use mathlib.Core.Bool.{Bool, true, false, cond}
 use lib.ListN.{length}
 use native.Mathlib.Omega.{arith}
 use borrow.Author.Tests.{lt-ltb, le-ltb}
@@ -13,6 +13,7 @@ use Rattle.hexfloat.specs.Answer.{Answer, gives, stops}
 use Rattle.orders.specs.declared.order.Operation.{Operation}
 use Rattle.orders.specs.declared.order.Order.{Order}
 use Rattle.orders.specs.Order.{legalOf, spanOf, storedOf}
+use Rattle.protection.specs.Form.{ProtectList, isProtected}
 use Rattle.machine.specs.declared.fetching.Fetched.{Fetched}
 use Rattle.machine.specs.declared.fetching.Operands.{Operands}
 use Rattle.machine.specs.declared.state.Registers.{Registers}
@@ -21,7 +22,6 @@ use Rattle.machine.specs.Check.{present}
 use Rattle.machine.specs.Decide.{accessed}
 use Rattle.machine.specs.Effect.{effectOf}
 use Rattle.machine.specs.Fetch.{operandsOf, operandsRead, saysFetched}
-use Rattle.machine.specs.Protect.{isProtected}
 use Rattle.machine.specs.Step.{stepped}
 use Rattle.machine.proofs.fetching.Fetched as fetched-type
 use Rattle.hexfloat.proofs.Answers.{gives-inj, never}
@@ -70,7 +70,7 @@ module _ (op : Operation) (o : Order) (g : Registers) (m : List ℕ) (legal : le
       cases false e z = never (sym z)
 
 -- of an order that passed checks 5, 12 and 13
-module _ (op : Operation) (o : Order) (g : Registers) (p m : List ℕ) (h : Accessible op o g) where
+module _ (op : Operation) (o : Order) (g : Registers) (p : ProtectList) (m : List ℕ) (h : Accessible op o g) where
   abbrev at : ℕ
   at = addressOf o (g .general)
 
@@ -119,5 +119,5 @@ module _ (op : Operation) (o : Order) (g : Registers) (p m : List ℕ) (h : Acce
           )
 
 -- a stop before the order is looked at names nothing
-pub explain-early : (k : ℕ) (o : Order) (g : Registers) (m p : List ℕ) → 1 ≤ k → k ≤ 4 → explained k o g m p ≡ cause k Named.Nothing
+pub explain-early : (k : ℕ) (o : Order) (g : Registers) (m : List ℕ) (p : ProtectList) → 1 ≤ k → k ≤ 4 → explained k o g m p ≡ cause k Named.Nothing
 explain-early k o g m p some few = rw (number-same k some (omega arith), named-none k o g m p (λ l u. omega arith))

@@ -4,5 +4,6 @@ pub mod Cells
 pub mod Explained
 pub mod Lowest
 pub mod Numbers
+pub mod Packed
 pub mod Reached
 pub mod Theorems

@@ -1,7 +1,6 @@
 -- The lowest of some addresses that a check refuses.
 use Prim.Native.Nat.{ℕ, zero, suc, _+_, _-_, _<_, _≤_}
 use mathlib.Core.Path.{_≡_, refl, sym, ap, _∙_}
-use mathlib.Core.List.{List}
 use mathlib.Core.Bool.{Bool, true, false, cond, _||_}
 use lib.Dec.{leb, ltb}
 use native.Mathlib.Omega.{arith}
@@ -10,7 +9,8 @@ use Rattle.hexfloat.specs.Answer.{Answer, gives, stops}
 use Rattle.orders.specs.declared.order.Operation.{Operation}
 use Rattle.orders.specs.declared.order.Order.{Order}
 use Rattle.orders.specs.Order.{legalOf}
-use Rattle.machine.specs.Protect.{isProtected, anyProtected}
+use Rattle.protection.specs.Form.{ProtectList, isProtected}
+use Rattle.machine.specs.Check.{anyProtected}
 use Rattle.machine.proofs.Rows.{legal-passed}
 use Rattle.cause.specs.Storage.{lowest, IsLowest, isAbsent, spanIn, storedIn}
 
@@ -59,7 +59,7 @@ module _ (refuses : ℕ → Bool) where
       cases false e h rest = more a n _ e (rest (omega (arith, h)))
 
 -- a halfword to be stored is protected exactly if there is one
-pub any-lowest : (p : List ℕ) (a n : ℕ) → anyProtected p a n ≡ ltb (lowest (isProtected p) a n) (a + n)
+pub any-lowest : (p : ProtectList) (a n : ℕ) → anyProtected p a n ≡ ltb (lowest (isProtected p) a n) (a + n)
 unfolding anyProtected lowest
 any-lowest p a zero = sym (le-ltb a (a + 0) (omega arith))
 any-lowest p a (suc n) = cases (isProtected p a) (any-lowest p (a + 1) n)

@@ -9,6 +9,7 @@ use native.Mathlib.Nat.{eq-zero-or-pos}
 use native.Mathlib.Omega.{arith}
 use borrow.Author.Tests.{eqb-false, leb-true, ne-eqb, le-leb}
 use Rattle.orders.specs.declared.order.Order.{Order}
+use Rattle.protection.specs.Form.{ProtectList}
 use Rattle.machine.specs.declared.state.Registers.{Registers}
 use Rattle.machine.specs.Fetch.{operandsRead}
 use Rattle.cause.specs.declared.naming.Named.{Named}
@@ -37,7 +38,7 @@ pub number-listed : (k : ℕ) → (causeNumber k ≡ 18 → ⊥) → (1 ≤ caus
 number-listed k h =
     ⊎-elim (λ z. let same = number-same k (z .0) (z .1) in (omega (arith, z .0, same), omega (arith, z .1, same))) (λ z. absurd (h z)) (number-or k)
 
-module _ (k : ℕ) (o : Order) (g : Registers) (m p : List ℕ) where
+module _ (k : ℕ) (o : Order) (g : Registers) (m : List ℕ) (p : ProtectList) where
   -- 8 to 11 name words
   pub named-words : 8 ≤ k → k ≤ 11 → namedFor k o g m p ≡ wordsRead (operandsRead o (g .float) (g .general) m)
   unfolding namedFor

@@ -11,12 +11,12 @@ use Rattle.hexfloat.specs.Answer.{Answer, gives, stops, provided, andThen}
 use Rattle.orders.specs.declared.order.Operation.{Operation}
 use Rattle.orders.specs.declared.order.Order.{Order}
 use Rattle.orders.specs.Order.{legalOf, spanOf, storedOf, isHalt, orderAt}
+use Rattle.protection.specs.Form.{ProtectList}
 use Rattle.machine.specs.declared.state.Registers.{Registers}
 use Rattle.machine.specs.Address.{addressOf}
-use Rattle.machine.specs.Check.{present}
+use Rattle.machine.specs.Check.{present, anyProtected}
 use Rattle.machine.specs.Decide.{entryStop, judged, decided}
 use Rattle.machine.specs.Effect.{effectOf}
-use Rattle.machine.specs.Protect.{anyProtected}
 use Rattle.hexfloat.proofs.Answers.{never, stops-inj, StopsBy, checked-by}
 use Rattle.machine.proofs.Checks.{entry-number}
 use Rattle.machine.proofs.Refusals.{effect-by, legal-by}
@@ -55,15 +55,17 @@ pub own-by : (op : Operation) (o : Order) (g : Registers) (m : List ℕ) → isH
 own-by op o g m goes = effect-by Own (λ n l u. record { some = l; most = u }) op o g m (λ z. absurd (let y : _≡_ {A = ℕ} 0 1 = cc in omega arith))
 
 -- an order o with these registers, protect list and memory that is stopped by k: by check 5, by check 6, by check 7, or by its own arithmetic
-pub record Known (o : Order) (g : Registers) (p m : List ℕ) (k : ℕ) : Type 0 where
+pub record Known (o : Order) (g : Registers) (p : ProtectList) (m : List ℕ) (k : ℕ) : Type 0 where
   pub illegal : k ≡ 5 → legalOf o ≡ stops 5
   pub absent : k ≡ 6 → (op : Operation) × (legalOf o ≡ gives op) × (present (spanOf op) (addressOf o (g .general)) (length m) ≡ false)
-  pub protected : k ≡ 7 → (op : Operation) × (legalOf o ≡ gives op) × (anyProtected p (addressOf o (g .general)) (storedOf op) ≡ true)
+  pub protected :
+      k ≡ 7 →
+      (op : Operation) × (legalOf o ≡ gives op) × (present (spanOf op) (addressOf o (g .general)) (length m) ≡ true) × (anyProtected p (addressOf o (g .general)) (storedOf op) ≡ true)
   pub arithmetic :
       8 ≤ k → k ≤ 11 →
       (op : Operation) × (legalOf o ≡ gives op) × (present (spanOf op) (addressOf o (g .general)) (length m) ≡ true) × (effectOf op o g m ≡ stops k)
 
-module _ (o : Order) (g : Registers) (p m : List ℕ) where
+module _ (o : Order) (g : Registers) (p : ProtectList) (m : List ℕ) where
   -- nothing is said of a stop before check 5, nor of 12 and 13
   outside : (k : ℕ) → (5 ≤ k → k ≤ 11 → ⊥) → Known o g p m k
   outside k h = record {
@@ -90,11 +92,11 @@ module _ (o : Order) (g : Registers) (p m : List ℕ) where
       arithmetic = λ l u. absurd (omega arith);
     }
 
-    seven : anyProtected p (addressOf o (g .general)) (storedOf op) ≡ true → Known o g p m 7
-    seven h = record {
+    seven : present (spanOf op) (addressOf o (g .general)) (length m) ≡ true → anyProtected p (addressOf o (g .general)) (storedOf op) ≡ true → Known o g p m 7
+    seven there h = record {
       illegal = λ e. absurd (omega arith);
       absent = λ e. absurd (omega arith);
-      protected = λ e. (op, legal, h);
+      protected = λ e. (op, legal, there, h);
       arithmetic = λ l u. absurd (omega arith);
     }
 
@@ -113,7 +115,7 @@ module _ (o : Order) (g : Registers) (p m : List ℕ) where
         provided-known (Known o g p m) (not (isHalt (op .verb))) 12 _ (λ z. outside 12 (λ l u. omega arith)) (λ goes.
         provided-known (Known o g p m) (ltb used (journal / 4)) 13 _ (λ z. outside 13 (λ l u. omega arith)) (λ z.
         provided-known (Known o g p m) (present (spanOf op) a (length m)) 6 _ six (λ there.
-        provided-known (Known o g p m) (not (anyProtected p a (storedOf op))) 7 _ (λ z. seven (not-false (anyProtected p a (storedOf op)) z)) (λ z.
+        provided-known (Known o g p m) (not (anyProtected p a (storedOf op))) 7 _ (λ z. seven there (not-false (anyProtected p a (storedOf op)) z)) (λ z.
         stops-known (Known o g p m) (effectOf op o g m) (λ k h.
         own there k (stops-at Own (effectOf op o g m) k h (own-by op o g m (not-true (isHalt (op .verb)) goes))) h)))))
 
@@ -122,11 +124,11 @@ module _ (o : Order) (g : Registers) (p m : List ℕ) where
       let is : k ≡ 5 = stops-at (λ (n : ℕ). n ≡ 5) (legalOf o) k h (legal-by (λ (n : ℕ). n ≡ 5) refl o) in
       subst (Known o g p m) (sym is) (five (h ∙ ap stops is))
 
-pub decided-known : (d p : List ℕ) (g : Registers) (used : ℕ) (m : List ℕ) (journal : ℕ) → StopsBy (Known (orderAt d (g .status .pointer)) g p m) (decided d p g used m journal)
+pub decided-known : (d : List ℕ) (p : ProtectList) (g : Registers) (used : ℕ) (m : List ℕ) (journal : ℕ) → StopsBy (Known (orderAt d (g .status .pointer)) g p m) (decided d p g used m journal)
 unfolding decided
 decided-known d p g used m journal =
     let o = orderAt d (g .status .pointer) in
-    let k = entryStop (length d) (length p) (g .status) used (length m) journal in
-    checked-by (Known o g p m) k _ (λ z. outside o g p m k (λ l u. omega (arith, entry-number (length p) (g .status) used (length m) journal (length d))))
+    let k = entryStop (length d) p (g .status) used (length m) journal in
+    checked-by (Known o g p m) k _ (λ z. outside o g p m k (λ l u. omega (arith, entry-number p (g .status) used (length m) journal (length d))))
     (provided-known (Known o g p m) (ltb (g .status .pointer) (length d / 4)) 4 _ (λ z. outside o g p m 4 (λ l u. omega arith)) (λ z.
     then-known (Known o g p m) (legalOf o) (judged o g used p m journal) (legal-known o g p m) (λ op legal. judged-known o g p m op legal used journal)))

@@ -13,13 +13,13 @@ use Rattle.hexfloat.specs.Answer.{gives, stops}
 use Rattle.orders.specs.declared.order.Operation.{Operation}
 use Rattle.orders.specs.declared.order.Order.{Order}
 use Rattle.orders.specs.Order.{legalOf, spanOf, storedOf}
+use Rattle.protection.specs.Form.{ProtectList, isProtected}
 use Rattle.machine.specs.declared.state.Registers.{Registers}
 use Rattle.machine.specs.Address.{addressOf}
-use Rattle.machine.specs.Check.{present}
+use Rattle.machine.specs.Check.{present, anyProtected}
 use Rattle.machine.specs.Fetch.{operandsRead}
 use Rattle.machine.specs.Machine.{Machine}
 use Rattle.machine.specs.Effect.{effectOf}
-use Rattle.machine.specs.Protect.{isProtected, anyProtected}
 use Rattle.machine.specs.Step.{verdictOf}
 use Rattle.cause.specs.declared.naming.Named.{Named}
 use Rattle.cause.specs.Arithmetic.{stopIn, stopBy}
@@ -33,6 +33,7 @@ use Rattle.cause.proofs.Attempted.{step-number}
 use Rattle.cause.proofs.Cells.{first-broken}
 use Rattle.cause.proofs.Lowest.{lowest-is, any-lowest, absent-found}
 use Rattle.cause.proofs.Numbers.{number-same, number-is, number-listed, named-words, named-none}
+use Rattle.cause.proofs.Packed.{same-cause}
 use Rattle.cause.proofs.Reached.{stop-known, Known, decided-known}
 
 -- a part of S is past the end of memory
@@ -45,7 +46,7 @@ past-end span a memory h = cases (eqb span 0) (leb (a + span) memory) refl refl 
     cases false true e f h = absurd (let z : _≡_ {A = ℕ} 0 1 = cc in omega arith)
     cases false false e f h = let some = eqb-false span 0 e in (⊎-elim (λ z. absurd (some z)) (λ z. z) (eq-zero-or-pos span), leb-false (a + span) memory f)
 
-module _ (o : Order) (g : Registers) (p m : List ℕ) where
+module _ (o : Order) (g : Registers) (p : ProtectList) (m : List ℕ) where
   abbrev named : ℕ → Named
   named k = namedFor k o g m p
 
@@ -91,7 +92,7 @@ module _ (o : Order) (g : Registers) (p m : List ℕ) where
         ∙ sym (effect-stop op o legal g m)
         ∙ ap stopIn h
 
-true-cause : (d p : List ℕ) (x : Machine) → TrueCause d p x (whyOf d p x)
+true-cause : (d : List ℕ) (p : ProtectList) (x : Machine) → TrueCause d p x (whyOf d p x)
 unfolding whyOf
 true-cause d p x =
     let g = x .state .registers in
@@ -111,7 +112,7 @@ true-cause d p x =
       protected = λ h.
           let q = number-is k 7 h (omega arith) in
           let z = known (q .1) .protected (q .0) in
-          protected-named o g p m (z .0) (z .1) k (q .0) (z .2);
+          protected-named o g p m (z .0) (z .1) k (q .0) (z .3);
       words = λ l u.
           let q = number-is k (causeNumber k) refl u in
           let low : 8 ≤ k = omega (arith, q .0) in
@@ -121,4 +122,4 @@ true-cause d p x =
     }
 
 pub theorems : Theorems
-theorems = record { true-cause = true-cause; same-stop = same-stop }
+theorems = record { true-cause = true-cause; same-stop = same-stop; same-cause = same-cause }

@@ -9,6 +9,8 @@ use Rattle.hexfloat.specs.Answer.{gives}
 use Rattle.orders.specs.declared.order.Operation.{Operation}
 use Rattle.orders.specs.declared.order.Order.{Order}
 use Rattle.orders.specs.Order.{legalOf, isHalt}
+use Rattle.protection.specs.Form.{ProtectList}
+use Rattle.protection.specs.Bits.{bitwise}
 use Rattle.machine.specs.declared.state.Registers.{Registers}
 use Rattle.machine.specs.Machine.{Machine, machine, registers, state}
 use Rattle.machine.specs.Status.{status}
@@ -22,8 +24,8 @@ abbrev pub attemptDeck : Order → List ℕ
 attemptDeck o = o .code ∷ o .r1 ∷ o .r2 ∷ 0 ∷ []
 
 -- nothing is protected
-abbrev pub attemptProtect : List ℕ
-attemptProtect = replicate 4 0
+abbrev pub attemptProtect : ProtectList
+attemptProtect = bitwise (replicate 1 0)
 
 -- the second operand in storage, room for one record, and no step taken yet
 abbrev pub attemptMachine : Registers → Words → Machine

@@ -6,6 +6,7 @@ use lib.Dec.{eqb, leb}
 use lib.ListN.{length}
 use Rattle.orders.specs.declared.order.Order.{Order}
 use Rattle.orders.specs.Order.{orderAt}
+use Rattle.protection.specs.Form.{ProtectList}
 use Rattle.machine.specs.declared.state.Registers.{Registers}
 use Rattle.machine.specs.Fetch.{operandsRead}
 use Rattle.machine.specs.Machine.{Machine}
@@ -34,7 +35,7 @@ unfoldable pub causeNumber : ℕ → ℕ
 causeNumber k = cond (eqb k 0) 18 (cond (leb k 11) k 18)
 
 -- 5 names a cell, 6 and 7 an address, 8 to 11 words, the others nothing
-unfoldable pub namedFor : ℕ → Order → Registers → List ℕ → List ℕ → Named
+unfoldable pub namedFor : ℕ → Order → Registers → List ℕ → ProtectList → Named
 namedFor k o g m p =
     cond (eqb k 5) (Named.Cell (firstCell (breaks o)))
     (cond (eqb k 6) (Named.Address (lowestAbsent o (g .general) (length m)))
@@ -43,7 +44,7 @@ namedFor k o g m p =
     Named.Nothing)))
 
 -- an order that is stopped by k, or by nothing where k is 0
-abbrev pub explained : ℕ → Order → Registers → List ℕ → List ℕ → Cause
+abbrev pub explained : ℕ → Order → Registers → List ℕ → ProtectList → Cause
 explained k o g m p = cause (causeNumber k) (namedFor k o g m p)
 
 -- the order at the pointer
@@ -51,5 +52,5 @@ abbrev pub nextOrder : List ℕ → Machine → Order
 nextOrder d x = orderAt d (x .state .registers .status .pointer)
 
 -- the next order, and the stop of the machine's own decision about it
-unfoldable pub whyOf : List ℕ → List ℕ → Machine → Cause
+unfoldable pub whyOf : List ℕ → ProtectList → Machine → Cause
 whyOf d p x = explained (stopIn (verdictOf d p x)) (nextOrder d x) (x .state .registers) (x .memory) p

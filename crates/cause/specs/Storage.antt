@@ -8,8 +8,8 @@ use Rattle.hexfloat.specs.Answer.{Answer, gives, stops}
 use Rattle.orders.specs.declared.order.Operation.{Operation}
 use Rattle.orders.specs.declared.order.Order.{Order}
 use Rattle.orders.specs.Order.{legalOf, spanOf, storedOf}
+use Rattle.protection.specs.Form.{ProtectList, isProtected}
 use Rattle.machine.specs.Address.{addressOf}
-use Rattle.machine.specs.Protect.{isProtected}
 
 -- the lowest of n addresses from a on that a check refuses, a + n where it refuses none
 unfoldable pub lowest : (ℕ → Bool) → ℕ → ℕ → ℕ
@@ -40,5 +40,5 @@ storedIn (stops k) = 0
 unfoldable pub lowestAbsent : Order → List ℕ → ℕ → ℕ
 lowestAbsent o n memory = lowest (isAbsent memory) (addressOf o n) (spanIn (legalOf o))
 
-unfoldable pub lowestProtected : Order → List ℕ → List ℕ → ℕ
+unfoldable pub lowestProtected : Order → List ℕ → ProtectList → ℕ
 lowestProtected o n p = lowest (isProtected p) (addressOf o n) (storedIn (legalOf o))

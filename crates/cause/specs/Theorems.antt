@@ -1,4 +1,4 @@
--- What is named is a true cause (document 02, Job 5), for every deck d, protect list p and machine x. The proofs are in proofs/Theorems.antt.
+-- What is named is a true cause (document 02, Job 5), for every deck d, protect list p in any form and machine x. The proofs are in proofs/Theorems.antt.
 use Prim.Native.Nat.{ℕ, _≤_}
 use mathlib.Core.Path.{_≡_}
 use mathlib.Core.List.{List}
@@ -8,12 +8,13 @@ use Rattle.hexfloat.specs.Answer.{gives}
 use Rattle.orders.specs.declared.order.Operation.{Operation}
 use Rattle.orders.specs.declared.order.Order.{Order}
 use Rattle.orders.specs.Order.{legalOf, spanOf, storedOf}
+use Rattle.protection.specs.Form.{ProtectList, isProtected}
+use Rattle.protection.specs.Theorems.{Alike}
 use Rattle.machine.specs.declared.state.Registers.{Registers}
 use Rattle.machine.specs.Address.{addressOf}
 use Rattle.machine.specs.Effect.{effectOf}
 use Rattle.machine.specs.Machine.{Machine}
 use Rattle.machine.specs.Operand.{floatOperand, secondOperand}
-use Rattle.machine.specs.Protect.{isProtected}
 use Rattle.machine.specs.Step.{stepped}
 use Rattle.cause.specs.declared.cell.Cell.{Cell}
 use Rattle.cause.specs.declared.naming.Cause.{Cause}
@@ -39,7 +40,7 @@ pub record NamesAddress (refuses : ℕ → Bool) (halfwords : Operation → ℕ)
   pub lowest : IsLowest refuses (addressOf o general) (halfwords operation) address
 
 -- the number is the step's where that is 1 to 11, else 18; what stands beside it is a cause of it; and beside 1 to 4 and 18 there is nothing
-pub record TrueCause (d p : List ℕ) (x : Machine) (w : Cause) : Type 0 where
+pub record TrueCause (d : List ℕ) (p : ProtectList) (x : Machine) (w : Cause) : Type 0 where
   pub number : w .number ≡ causeNumber (stepped d p x .stop)
   pub listed : (w .number ≡ 18 → ⊥) → (1 ≤ w .number) × (w .number ≤ 11)
   pub nothing : (5 ≤ w .number → w .number ≤ 11 → ⊥) → w .named ≡ Named.Nothing
@@ -59,5 +60,7 @@ SameStop op o =
     (g h : Registers) (m n : List ℕ) → wordsIn op o g m ≡ wordsIn op o h n → g .status .mask ≡ h .status .mask → stopIn (effectOf op o g m) ≡ stopIn (effectOf op o h n)
 
 pub record Theorems : Type 0 where
-  pub true-cause : (d p : List ℕ) (x : Machine) → TrueCause d p x (whyOf d p x)
+  pub true-cause : (d : List ℕ) (p : ProtectList) (x : Machine) → TrueCause d p x (whyOf d p x)
   pub same-stop : (op : Operation) (o : Order) → legalOf o ≡ gives op → SameStop op o
+  -- over protect lists that say the same of memory's halfwords the answer is the same (document 02, Job 6)
+  pub same-cause : (d : List ℕ) (p q : ProtectList) (x : Machine) → Alike (length (x .memory)) p q → whyOf d p x ≡ whyOf d q x

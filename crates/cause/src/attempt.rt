@@ -41,7 +41,7 @@ pub fn attempt(o: Order, second: Words, registers: Registers) -> u8
     let state = State { registers, used: 0 };
     let deck = [o.code, o.r1, o.r2, 0];
     let mut memory = halfwords(second);
-    let protect = [0; 4];
+    let protect = [0; 1];
     let mut journal = [0; 4];
     let stepped = machine::step(state, &deck, &mut memory, &protect, &mut journal);
     let stop = stepped.stop;

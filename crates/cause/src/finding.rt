@@ -19,6 +19,7 @@ use orders::span;
 use orders::stored;
 ghost use mathlib.Core.Path.{_≡_};
 ghost use Prim.Native.Nat.{_≤_};
+ghost use Rattle.protection.specs.Bits.{bitwise};
 ghost use Rattle.machine.specs.Decide.{accessed, judgedAt};
 ghost use Rattle.machine.specs.Machine.{machine};
 ghost use Rattle.cause.specs.Attempt.{Accessible};
@@ -39,7 +40,7 @@ fn alone(number: u8) -> Cause
 // Checks 6 and 7 of a legal order, and 8 to 11, for which it is tried.
 fn access(op: Operation, o: Order, registers: Registers, memory: &[u16], protect: &[u8]) -> Cause
     requires { ⌜ Accessible op o registers ⌝ }
-    ensures { λ r. ⌜ r ≡ explained (stopIn (accessed o registers (now (protect .entry)) (now (memory .entry)) op)) o registers (now (memory .entry)) (now (protect .entry)) ⌝ }
+    ensures { λ r. ⌜ r ≡ explained (stopIn (accessed o registers (bitwise (now (protect .entry))) (now (memory .entry)) op)) o registers (now (memory .entry)) (bitwise (now (protect .entry))) ⌝ }
 {
     let float = registers.float;
     let general = registers.general;
@@ -77,7 +78,7 @@ fn examine(
     journal: usize,
 ) -> Cause
     requires { ⌜ registers .status .mask ≤ 1 ⌝ }
-    ensures { λ r. ⌜ r ≡ explained (stopIn (judgedAt o registers used (now (protect .entry)) (now (memory .entry)) journal)) o registers (now (memory .entry)) (now (protect .entry)) ⌝ }
+    ensures { λ r. ⌜ r ≡ explained (stopIn (judgedAt o registers used (bitwise (now (protect .entry))) (now (memory .entry)) journal)) o registers (now (memory .entry)) (bitwise (now (protect .entry))) ⌝ }
 {
     let checked = legal(o);
     let Legality::Legal(op) = checked else {
@@ -98,7 +99,7 @@ fn examine(
 
 // Why the next step is stopped. Takes what a step takes, and writes nothing.
 pub fn why(s: State, deck: &[u16], memory: &[u16], protect: &[u8], journal: &[u32]) -> Cause
-    ensures { λ r. ⌜ r ≡ whyOf (now (deck .entry)) (now (protect .entry)) (machine s (now (memory .entry)) (now (journal .entry))) ⌝ }
+    ensures { λ r. ⌜ r ≡ whyOf (now (deck .entry)) (bitwise (now (protect .entry))) (machine s (now (memory .entry)) (now (journal .entry))) ⌝ }
 {
     let registers = s.registers;
     let status = registers.status;
@@ -106,7 +107,7 @@ pub fn why(s: State, deck: &[u16], memory: &[u16], protect: &[u8], journal: &[u3
         status,
         s.used,
         deck.len(),
-        protect.len(),
+        protect,
         memory.len(),
         journal.len(),
     );

@@ -4,6 +4,7 @@ use Prim.Native.Nat.{_<_}
 use mathlib.Core.Path.{sym, ap, _∙_}
 use native.Mathlib.Omega.{arith}
 use borrow.Author.Needs.{needs}
+use Rattle.protection.specs.Bits.{bitwise}
 use Rattle.machine.specs.Fetch.{saysFetched}
 use Rattle.machine.proofs.Rows.{legal-passed}
 use Rattle.cause.proofs.Explained.{unread, explain-absent, explain-protected, explain-taken, explain-words}
@@ -35,7 +36,7 @@ returns : tie.Need-returns
 returns c =
     let x = c .before .before .before .before .before .before .before .before .before .before .before .before in
     let absent = unread (x .args .op) (x .args .o) (x .args .registers) (x .args .memory .now) (x .pre .legal) (c .before .before .before .fetch .result) (c .before .before .match .keys2) (c .before .before .before .fetch .ensures) in
-    rw (c .lowest-absent .ensures, c .before .span .ensures, c .before .before .before .before .before .before .address .ensures) (sym (explain-absent (x .args .op) (x .args .o) (x .args .registers) (x .args .protect .now) (x .args .memory .now) (x .pre) absent))
+    rw (c .lowest-absent .ensures, c .before .span .ensures, c .before .before .before .before .before .before .address .ensures) (sym (explain-absent (x .args .op) (x .args .o) (x .args .registers) (bitwise (x .args .protect .now)) (x .args .memory .now) (x .pre) absent))
 
 stored-requires : tie.Need-stored-requires
 stored-requires c κs = search needs
@@ -57,7 +58,7 @@ returns-2 c =
     let x = c .before .before .before .before .before .before .before .before .before .before .before .before .before .before .before in
     let e = sym (ap saysFetched (c .before .before .before .before .fetched .given .1)) ∙ c .before .before .before .before .before .before .fetch .ensures in
     let low = rw (c .before .lowest-protected .ensures, c .before .before .stored .ensures, c .before .before .before .before .before .before .before .before .before .address .ensures) at (c .if1 .taken) in
-    rw (c .before .lowest-protected .ensures, c .before .before .stored .ensures, c .before .before .before .before .before .before .before .before .before .address .ensures) (sym (explain-protected (x .args .op) (x .args .o) (x .args .registers) (x .args .protect .now) (x .args .memory .now) (x .pre) _ e low))
+    rw (c .before .lowest-protected .ensures, c .before .before .stored .ensures, c .before .before .before .before .before .before .before .before .before .address .ensures) (sym (explain-protected (x .args .op) (x .args .o) (x .args .registers) (bitwise (x .args .protect .now)) (x .args .memory .now) (x .pre) _ e low))
 
 attempt-requires : tie.Need-attempt-requires
 attempt-requires c κs = search needs
@@ -70,7 +71,7 @@ returns-3 c =
     let x = c .before .before .before .before .before .before .before .before .before .before .before .before .before .before .before .before .before .before in
     let e = sym (ap saysFetched (c .before .before .before .before .before .before .before .fetched .given .1)) ∙ c .before .before .before .before .before .before .before .before .before .fetch .ensures in
     let free = rw (c .before .before .before .before .lowest-protected .ensures, c .before .before .before .before .before .stored .ensures, c .before .before .before .before .before .before .before .before .before .before .before .before .address .ensures) at (c .before .before .before .if1 .left) in
-    c .alone .ensures ∙ sym (explain-taken (x .args .op) (x .args .o) (x .args .registers) (x .args .protect .now) (x .args .memory .now) (x .pre) _ e free (sym (c .before .before .attempt .ensures) ∙ c .before .if2 .taken))
+    c .alone .ensures ∙ sym (explain-taken (x .args .op) (x .args .o) (x .args .registers) (bitwise (x .args .protect .now)) (x .args .memory .now) (x .pre) _ e free (sym (c .before .before .attempt .ensures) ∙ c .before .if2 .taken))
 
 words-read-requires : tie.Need-words-read-requires
 words-read-requires c κs = search needs
@@ -80,7 +81,7 @@ returns-4 c =
     let x = c .before .before .before .before .before .before .before .before .before .before .before .before .before .before .before .before .before .before in
     let e = sym (ap saysFetched (c .before .before .before .before .before .before .before .fetched .given .1)) ∙ c .before .before .before .before .before .before .before .before .before .fetch .ensures in
     let free = rw (c .before .before .before .before .lowest-protected .ensures, c .before .before .before .before .before .stored .ensures, c .before .before .before .before .before .before .before .before .before .before .before .before .address .ensures) at (c .before .before .before .if1 .left) in
-    rw (c .before .before .attempt .ensures, c .words-read .ensures) (sym (explain-words (x .args .op) (x .args .o) (x .args .registers) (x .args .protect .now) (x .args .memory .now) (x .pre) _ e free (rw (← c .before .before .attempt .ensures) (search needs))))
+    rw (c .before .before .attempt .ensures, c .words-read .ensures) (sym (explain-words (x .args .op) (x .args .o) (x .args .registers) (bitwise (x .args .protect .now)) (x .args .memory .now) (x .pre) _ e free (rw (← c .before .before .attempt .ensures) (search needs))))
 
 pub access-spec : {M : Type 1} → statement M
 access-spec =

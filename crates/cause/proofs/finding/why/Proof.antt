@@ -6,6 +6,7 @@ use lib.ListN.{length}
 use native.Mathlib.Omega.{arith}
 use borrow.Author.Tests.{eq-eqb, ne-eqb, lt-ltb, le-ltb}
 use borrow.Author.Needs.{needs}
+use Rattle.protection.specs.Bits.{bitwise}
 use Rattle.machine.specs.Decide.{decided}
 use Rattle.machine.specs.Stops.{numberOf}
 use Rattle.machine.proofs.Checks.{held, entered, entry-number}
@@ -28,7 +29,7 @@ unfolding whyOf decided
 returns c =
     let n = c .before .before .number in
     let a = c .before .before .before .before .before .before .before .before .before .before .args in
-    let three = entry-number (length (a .protect .now)) (a .s .registers .status) (a .s .used) (length (a .memory .now)) (length (a .journal .now)) (length (a .deck .now)) in
+    let three = entry-number (bitwise (a .protect .now)) (a .s .registers .status) (a .s .used) (length (a .memory .now)) (length (a .journal .now)) (length (a .deck .now)) in
     let few : n .result ≤ 4 = omega (arith, n .ensures, c .before .before .before .entry .ensures, three) in
     rw (c .alone .ensures, ← c .before .before .before .entry .ensures, ← n .ensures, ne-eqb (n .result) 0 (c .before .if1 .taken)) (sym (explain-early (n .result) _ _ _ _ (search needs) few))
 

@@ -4,14 +4,15 @@ use Prim.Native.Nat.{_+_, _<_}
 use mathlib.Core.Path.{_≡_, refl, sym, _∙_}
 use native.Mathlib.Omega.{arith}
 use borrow.Author.Needs.{needs}
-use Rattle.machine.specs.Protect.{isProtected}
+use Rattle.protection.specs.Form.{isProtected}
+use Rattle.protection.specs.Bits.{bitwise}
 use Rattle.cause.specs.Storage.{lowest}
 use Rattle.cause.proofs.Lowest.{lowest-here, lowest-on, lowest-none}
 use Rattle.cause.proofs.storage.lowest_protected.Statement.{statement}
 use Rattle.cause.proofs.storage.lowest_protected.Tie as tie
 
 abbrev Inv-loop : tie.InvT-loop
-Inv-loop protect at n a₀ left₀ a left = (lowest (isProtected protect) at n ≡ lowest (isProtected protect) a left) × (a + left < 0x100000000)
+Inv-loop protect at n a₀ left₀ a left = (lowest (isProtected (bitwise protect)) at n ≡ lowest (isProtected (bitwise protect)) a left) × (a + left < 0x100000000)
 
 abbrev μ-loop : tie.MeasureT-loop
 μ-loop protect at n a₀ left₀ a left = left
@@ -19,14 +20,17 @@ abbrev μ-loop : tie.MeasureT-loop
 loop-holds : tie.Need-loop-holds Inv-loop μ-loop
 loop-holds c = (refl, c .before .pre)
 
-protected-at-requires : tie.Need-protected-at-requires Inv-loop μ-loop
-protected-at-requires c κs = search needs
+cast-is-protected : tie.Need-cast-is-protected Inv-loop μ-loop
+cast-is-protected c = search needs
+
+is-protected-requires : tie.Need-is-protected-requires Inv-loop μ-loop
+is-protected-requires c κs = search needs
 
 returns : tie.Need-returns Inv-loop μ-loop
 returns c =
     let l = c .before .before .before .loop in
-    let p = c .before .before .before .before .before .args .protect .now in
-    sym (l .inv .0 ∙ lowest-here (isProtected p) (l .a) (l .left) (sym (c .before .protected-at .ensures) ∙ c .if1 .taken))
+    let p = bitwise (c .before .before .before .before .before .args .protect .now) in
+    sym (l .inv .0 ∙ lowest-here (isProtected p) (l .a) (l .left) (sym (c .before .is-protected .ensures) ∙ c .if1 .taken))
 
 add-a : tie.Need-add-a Inv-loop μ-loop
 add-a c = omega (arith, c .before .before .before .loop .inv .1, c .before .before .loop-test .taken)
@@ -40,15 +44,15 @@ loop-less c = omega arith
 loop-again : tie.Need-loop-again Inv-loop μ-loop
 loop-again c =
     let l = c .before .before .before .loop in
-    let p = c .before .before .before .before .before .args .protect .now in (
-      l .inv .0 ∙ lowest-on (isProtected p) (l .a) (l .left) (c .before .before .loop-test .taken) (sym (c .before .protected-at .ensures) ∙ c .if1 .left),
+    let p = bitwise (c .before .before .before .before .before .args .protect .now) in (
+      l .inv .0 ∙ lowest-on (isProtected p) (l .a) (l .left) (c .before .before .loop-test .taken) (sym (c .before .is-protected .ensures) ∙ c .if1 .left),
       omega (arith, l .inv .1, c .before .before .loop-test .taken),
     )
 
 returns-2 : tie.Need-returns-2 Inv-loop μ-loop
 returns-2 c =
     let l = c .before .loop in
-    let p = c .before .before .before .args .protect .now in
+    let p = bitwise (c .before .before .before .args .protect .now) in
     sym (l .inv .0 ∙ lowest-none (isProtected p) (l .a) (l .left) (c .loop-test .left))
 
 pub lowest-protected-spec : {M : Type 1} → statement M
@@ -58,7 +62,8 @@ lowest-protected-spec =
     Inv-loop
     μ-loop
     loop-holds
-    protected-at-requires
+    cast-is-protected
+    is-protected-requires
     returns
     add-a
     sub-left
