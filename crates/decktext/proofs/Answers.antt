@@ -73,7 +73,7 @@ small-by true q x h = let e = gives-inj h in omega arith
 small-by false true x h = let e = gives-inj h in omega arith
 small-by false false x h = never h
 
--- a protect byte is 0 or 1
+-- a protect digit is 0 or 1
 pub protect-small : (v : List ℕ) (x : ℕ) → protectOf v ≡ gives x → x < 2
 unfolding protectOf
 protect-small v x h = small-by (same v (48 ∷ [])) (same v (49 ∷ [])) x h

@@ -11,6 +11,7 @@ use borrow.Author.Tests.{eqb-true, eqb-false, leb-true, ltb-true}
 use Rattle.hexfloat.specs.Answer.{Answer, gives, stops, provided, andThen}
 use Rattle.orders.specs.declared.order.Order.{Order}
 use Rattle.orders.specs.Order.{legalOf}
+use Rattle.protection.specs.Form.{ProtectList, holds}
 use Rattle.hexfloat.proofs.Answers.{gives-inj, never, provided-gives}
 use Rattle.decktext.specs.declared.fault.Fault.{Fault}
 use Rattle.decktext.specs.declared.given.Given.{Given as GivenLine}
@@ -196,8 +197,15 @@ protect-fits (a ∷ p ∷ []) h e = never e
 protect-fits (a ∷ p ∷ w ∷ []) h e = protect-small p (h .protect) (halfword-parts a p w h e .protect)
 protect-fits (a ∷ p ∷ w ∷ x ∷ vs) h e = never e
 
+-- the protect list has the byte of a halfword
+abbrev Markable : Given → ProtectList → Type 0
+Markable headed p = Unit {0}
+Markable (ordered o) p = Unit {0}
+Markable parted p = Unit {0}
+Markable (stored h) p = holds p (h .at) ≡ true
+
 abbrev pub Fits : Progress → Given → Type 0
-Fits p g = Storable g (p .count) (length (p .held .cells)) (length (p .held .memory)) (length (p .held .protect))
+Fits p g = Storable g (p .count) (length (p .held .cells)) (length (p .held .memory)) × Markable g (p .held .protect)
 
 -- what a line of each kind can give
 pub data Sound (p : Progress) : Wanted → Given → Type 0 where
@@ -215,7 +223,7 @@ order-sound p line true g h = subst (λ (x : Given). Sound p order x) (gives-inj
 order-sound p line false g h =
     let q = and-then-gives (orderOf line) (orderFits p) h in
     let r = provided-gives (leb (p .count * 4 + 4) (length (p .held .cells))) 17 (gives (ordered (q .0))) (q .2) in
-    subst (λ (x : Given). Sound p order x) (gives-inj (r .1)) (anOrder (q .0) (leb-true _ _ (r .0)))
+    subst (λ (x : Given). Sound p order x) (gives-inj (r .1)) (anOrder (q .0) (leb-true _ _ (r .0), tt))
 
 pub sound : (w : Wanted) (p : Progress) (line : List ℕ) (g : Given) → lineAs w p line ≡ gives g → Sound p w g
 unfolding halfwordOf
@@ -226,15 +234,15 @@ sound halfword p line g h =
     let q = and-then-gives (halfwordOf line) (halfwordFits p) h in
     let a = provided-gives (leb (p .least) (q .0 .at)) 16 _ (q .2) in
     let b = provided-gives (ltb (q .0 .at) (length (p .held .memory))) 17 _ (a .1) in
-    let c = provided-gives (ltb (q .0 .at) (length (p .held .protect))) 17 (gives (stored (q .0))) (b .1) in
+    let c = provided-gives (holds (p .held .protect) (q .0 .at)) 17 (gives (stored (q .0))) (b .1) in
     subst (λ (x : Given). Sound p halfword x) (gives-inj (c .1))
-    (aHalfword (q .0) (leb-true _ _ (a .0)) (ltb-true _ _ (b .0), ltb-true _ _ (c .0), protect-fits (valuesOf line) (q .0) (q .1)))
+    (aHalfword (q .0) (leb-true _ _ (a .0)) ((ltb-true _ _ (b .0), protect-fits (valuesOf line) (q .0) (q .1)), c .0))
 
 pub sound-fits : {p : Progress} {w : Wanted} {g : Given} → Sound p w g → Fits p g
-sound-fits first = tt
+sound-fits first = (tt, tt)
 sound-fits (anOrder o f) = f
-sound-fits parting = tt
-sound-fits second = tt
+sound-fits parting = (tt, tt)
+sound-fits second = (tt, tt)
 sound-fits (aHalfword h r f) = f
 
 -- ---- the count of values, by another name

@@ -13,6 +13,7 @@ mod Answers
 mod Parsed
 mod Forms
 mod Cells
+mod Marks
 mod Staging
 mod Widths
 mod Walking
@@ -20,4 +21,5 @@ mod Readings
 mod Passing
 pub mod Laws
 mod Numbers
+pub mod Packed
 pub mod Theorems

@@ -10,6 +10,7 @@ use lib.ListN.{length}
 use borrow.Author.Tests.{ltb-true, ltb-false}
 use Rattle.hexfloat.specs.Answer.{gives, provided, andThen}
 use Rattle.orders.specs.declared.order.Order.{Order}
+use Rattle.protection.specs.Form.{holds}
 use Rattle.hexfloat.proofs.Answers.{gives-inj, provided-gives}
 use Rattle.decktext.specs.Text.{Line, ended, unended, linesOf, same}
 use Rattle.decktext.specs.Format.{deckHeading, storageHeading, orderOf, halfwordOf}
@@ -40,7 +41,7 @@ line-only order p l =
 line-only storage p l = only-provided Is16or17 (same l storageHeading) 16 (gives headed) (inl refl) tt
 line-only halfword p l =
     only-and-then Is16or17 (halfwordOf l) (halfwordFits p) (only-either (halfwordOf l) (halfword-only l)) (λ h.
-    halfword-fits-only (leb (p .least) (h .at)) (ltb (h .at) (length (p .held .memory))) (ltb (h .at) (length (p .held .protect))) (stored h))
+    halfword-fits-only (leb (p .least) (h .at)) (ltb (h .at) (length (p .held .memory))) (holds (p .held .protect) (h .at)) (stored h))
 
 fault-number : (ls : List Line) (p : Progress) (n : ℕ) → Faulty ls p n → Is16or17 n
 unfolding lineRead

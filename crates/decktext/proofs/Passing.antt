@@ -7,11 +7,14 @@ use lib.ListN.{length, getD, length-set}
 use lib.Seq.{getD-set-other}
 use Rattle.hexfloat.specs.Answer.{Answer, gives, stops}
 use Rattle.orders.specs.Order.{orderAt}
+use Rattle.protection.specs.Form.{isProtected, withMark}
+use Rattle.protection.specs.Bits.{bitForm}
 use Rattle.decktext.specs.Text.{Line, ended, unended}
 use Rattle.decktext.specs.Read.{Wanted, heading, order, storage, halfword, Progress, Given, headed, ordered, parted, stored, lineRead, bufferedWith, progressed, Read, whole, faulty, endRead, readOn, linesRead}
 use Rattle.decktext.specs.Theorems.{Through, Faulty}
 use Rattle.decktext.proofs.Forms.{Sound, first, anOrder, parting, second, aHalfword, sound}
 use Rattle.decktext.proofs.Cells.{order-kept}
+use Rattle.decktext.proofs.Marks.{marked-others}
 use Rattle.decktext.proofs.Walking.{other, end-whole}
 
 -- ---- lines that go through, and lines that are read
@@ -102,7 +105,8 @@ pub record Kept (p q : Progress) : Type 0 where
   pub least : p .least ≤ q .least
   pub cells : (j : ℕ) → j < p .count → orderAt (q .held .cells) j ≡ orderAt (p .held .cells) j
   pub memory : (a : ℕ) → a < p .least → getD (q .held .memory) a 0 ≡ getD (p .held .memory) a 0
-  pub protect : (a : ℕ) → a < p .least → getD (q .held .protect) a 0 ≡ getD (p .held .protect) a 0
+  pub form : q .held .protect .form ≡ p .held .protect .form
+  pub protect : p .held .protect .form ≡ bitForm → (a : ℕ) → a < p .least → isProtected (q .held .protect) a ≡ isProtected (p .held .protect) a
   pub size : length (q .held .cells) ≡ length (p .held .cells)
   pub room : p .count * 4 ≤ length (p .held .cells) → q .count * 4 ≤ length (q .held .cells)
 
@@ -112,13 +116,14 @@ same-kept p q n l h = record {
   least = omega arith;
   cells = λ j k. rw h;
   memory = λ a k. rw h;
-  protect = λ a k. rw h;
+  form = rw h;
+  protect = λ x a k. rw h;
   size = rw h;
   room = λ r. rw (← n, ← h) r;
 }
 
 kept : {p : Progress} {w : Wanted} {g : Given} → Sound p w g → Kept p (progressed g p)
-unfolding progressed bufferedWith
+unfolding progressed bufferedWith withMark
 kept {p} first = same-kept p _ refl refl refl
 kept {p} parting = same-kept p _ refl refl refl
 kept {p} second = same-kept p _ refl refl refl
@@ -127,7 +132,8 @@ kept {p} (anOrder o f) = record {
   least = omega arith;
   cells = λ j k. order-kept (p .held .cells) (p .count) j o k;
   memory = λ a k. refl;
-  protect = λ a k. refl;
+  form = refl;
+  protect = λ x a k. refl;
   size = simp length-set;
   room = λ r. simp length-set (omega arith);
 }
@@ -136,7 +142,8 @@ kept {p} (aHalfword h r f) = record {
   least = omega arith;
   cells = λ j k. refl;
   memory = λ a k. getD-set-other (p .held .memory) (h .at) a (h .word) 0 (λ e. omega arith);
-  protect = λ a k. getD-set-other (p .held .protect) (h .at) a (h .protect) 0 (λ e. omega arith);
+  form = refl;
+  protect = λ x a k. marked-others (p .held .protect) x (h .at) (h .protect) (f .0 .1) a (λ e. omega arith);
   size = refl;
   room = λ r. r;
 }
@@ -147,7 +154,8 @@ kept-trans a b = record {
   least = omega (arith, a .least, b .least);
   cells = λ j k. b .cells j (omega (arith, a .orders)) ∙ a .cells j k;
   memory = λ i k. b .memory i (omega (arith, a .least)) ∙ a .memory i k;
-  protect = λ i k. b .protect i (omega (arith, a .least)) ∙ a .protect i k;
+  form = b .form ∙ a .form;
+  protect = λ x i k. b .protect (a .form ∙ x) i (omega (arith, a .least)) ∙ a .protect x i k;
   size = b .size ∙ a .size;
   room = λ r. b .room (a .room r);
 }

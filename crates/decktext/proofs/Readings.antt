@@ -5,6 +5,7 @@ use mathlib.Core.List.{List}
 use native.Mathlib.Omega.{arith}
 use lib.ListN.{length}
 use borrow.Author.Tests.{le-ltb}
+use Rattle.protection.specs.Form.{ProtectList}
 use Rattle.decktext.specs.declared.deck.Found.{Found}
 use Rattle.decktext.specs.declared.deck.Reading.{Reading}
 use Rattle.decktext.specs.Read.{Buffers, buffers, Said, taken, refused, saysReading, outcome, Progress, Read, whole, faulty, concludedWith, readText}
@@ -53,14 +54,14 @@ module _ {t : List ℕ} {b : Buffers} {staged : List ℕ} {r : Found} (w : Walke
     pub orders : n * 4 ≤ 16384
     orders = rw (text .count) at (w .orders (text .given) (text .lines))
 
-    pub landing : Landing staged n (r .halfwords) (length (b .memory)) (length (b .protect))
+    pub landing : Landing staged n (r .halfwords) (length (b .memory))
     landing = rw (text .count) at (w .landing (text .given) (text .lines))
 
     pub said-taken : readText t b .said ≡ taken n
     said-taken = rw (within-limit t b limit, text .lines) (ap (λ (m : ℕ). taken m) (text .count))
 
     -- what is staged is copied out
-    pub taking : (cells memory protect : List ℕ) → cells ≡ withFront staged (n * 4) (b .cells) → memory ≡ withWords staged n (r .halfwords) (b .memory)
+    pub taking : (cells memory : List ℕ) (protect : ProtectList) → cells ≡ withFront staged (n * 4) (b .cells) → memory ≡ withWords staged n (r .halfwords) (b .memory)
         → protect ≡ withProtects staged n (r .halfwords) (b .protect) → outcome (buffers cells memory protect) (taken n) ≡ readText t b
     taking cells memory protect ec em ep =
         let held : text .given .held ≡ replayed staged n (r .halfwords) b = rw (text .count) at (w .held (text .given) (text .lines)) in

@@ -9,10 +9,11 @@ use lib.ListN.{length, getD, set, length-set}
 use lib.Seq.{getD-set-same, getD-set-other}
 use Rattle.orders.specs.declared.order.Order.{Order}
 use Rattle.orders.specs.Order.{orderAt}
+use Rattle.protection.specs.Form.{ProtectList, withMark}
 use Rattle.decktext.specs.Format.{Halfword}
 use Rattle.decktext.specs.Read.{Buffers, Given, headed, ordered, parted, stored, withCells, bufferedWith}
 use Rattle.decktext.specs.Walk.{Storable}
-use Rattle.decktext.specs.Staged.{placeAfter, valuesIn, halfwordsWith, withHalfword, stagedWith, withFront, withColumn, replayed, Landing}
+use Rattle.decktext.specs.Staged.{placeAfter, valuesIn, halfwordsWith, withHalfword, stagedWith, withFront, halfwordAt, withEach, putWord, putMark, withWords, withProtects, replayed, Landing}
 use Rattle.decktext.proofs.Cells.{cell-kept, order-put}
 
 -- r has the values of s below a place
@@ -26,13 +27,15 @@ front-same s r (suc m) c a =
     let e = a m (omega arith) in
     rw (e, front-same s r m c (λ j h. a j (omega arith)))
 
-column-same : (into : ℕ) (s r : List ℕ) (n k : ℕ) (m : List ℕ) → into ≤ 2 → Agree s r (placeAfter n k) → withColumn into r n k m ≡ withColumn into s n k m
-unfolding withColumn
-column-same into s r n zero m i a = refl
-column-same into s r n (suc k) m i a =
-    let e0 = a (placeAfter n k) (omega arith) in
-    let e1 = a (placeAfter n k + into) (omega arith) in
-    rw (e0, e1, column-same into s r n k m i (λ j h. a j (omega arith)))
+each-same : {W : Type 0} (put : Halfword → W → W) (s r : List ℕ) (n k : ℕ) (w : W) → Agree s r (placeAfter n k) → withEach put r n k w ≡ withEach put s n k w
+unfolding withEach
+each-same put s r n zero w a = refl
+each-same put s r n (suc k) w a =
+    let i = placeAfter n k in
+    let e0 = a i (omega arith) in
+    let e1 = a (i + 1) (omega arith) in
+    let e2 = a (i + 2) (omega arith) in
+    rw (e0, e1, e2, each-same put s r n k w (λ j h. a j (omega arith)))
 
 -- ---- one halfword more
 
@@ -58,12 +61,16 @@ module _ (s : List ℕ) (i : ℕ) (h : Halfword) where
     word-put : getD (withHalfword i h s) (i + 2) 0 ≡ h .word
     word-put = getD-set-same (set (set s i (h .at)) (i + 1) (h .protect)) (i + 2) (h .word) 0 (simp length-set (omega arith))
 
-column-more : (into x : ℕ) (s : List ℕ) (n k : ℕ) (h : Halfword) (m : List ℕ) → into ≤ 2 → placeAfter n k + 3 ≤ length s
-    → getD (withHalfword (placeAfter n k) h s) (placeAfter n k + into) 0 ≡ x
-    → withColumn into (withHalfword (placeAfter n k) h s) n (k + 1) m ≡ set (withColumn into s n k m) (h .at) x
-unfolding withColumn
-column-more into x s n k h m i room e =
-    rw (add-one k, at-put s (placeAfter n k) h room, e, column-same into s (withHalfword (placeAfter n k) h s) n k m i (halfword-kept s (placeAfter n k) h))
+    halfword-put : halfwordAt (withHalfword i h s) i ≡ h
+    halfword-put = rw (at-put, protect-put, word-put)
+
+each-more : {W : Type 0} (put : Halfword → W → W) (s : List ℕ) (n k : ℕ) (h : Halfword) (w : W) → placeAfter n k + 3 ≤ length s
+    → withEach put (withHalfword (placeAfter n k) h s) n (k + 1) w ≡ put h (withEach put s n k w)
+unfolding withEach
+each-more put s n k h w room =
+    let i = placeAfter n k in
+    rw (add-one k, each-same put s (withHalfword i h s) n k w (halfword-kept s i h))
+    (ap (λ (x : Halfword). put x (withEach put s n k w)) (halfword-put s i h room))
 
 -- ---- one line more
 
@@ -114,48 +121,47 @@ orders-more s n o c room =
     ∙ ap (λ (x : Order). withCells n x (withFront s (n * 4) c)) (order-put s n o room))
 
 pub replayed-none : (s : List ℕ) (b : Buffers) → replayed s 0 0 b ≡ b
-unfolding withFront withColumn
+unfolding withFront withEach
 replayed-none s b = refl
 
-columns-none : (o : Order) (n : ℕ) (s : List ℕ) (b : Buffers) → n * 4 + 4 ≤ length s → replayed (withCells n o s) (n + 1) 0 b ≡ bufferedWith (ordered o) n (replayed s n 0 b)
-unfolding withColumn bufferedWith
-columns-none o n s b room = rw (orders-more s n o (b .cells) room)
+order-replayed : (o : Order) (n : ℕ) (s : List ℕ) (b : Buffers) → n * 4 + 4 ≤ length s → replayed (withCells n o s) (n + 1) 0 b ≡ bufferedWith (ordered o) n (replayed s n 0 b)
+unfolding withEach bufferedWith
+order-replayed o n s b room = rw (orders-more s n o (b .cells) room)
 
 pub replayed-with : (g : Given) (n k : ℕ) (s : List ℕ) (b : Buffers) → Follows g k → placeAfter n k + valuesIn g ≤ length s
     → replayed (stagedWith g n k s) (ordersWith g n) (halfwordsWith g k) b ≡ bufferedWith g n (replayed s n k b)
 unfolding stagedWith bufferedWith
 replayed-with headed n k s b f room = refl
-replayed-with (ordered o) n k s b f room = rw f (columns-none o n s b (omega arith))
+replayed-with (ordered o) n k s b f room = rw f (order-replayed o n s b (omega arith))
 replayed-with parted n k s b f room = refl
 replayed-with (stored h) n k s b f room =
     let i = placeAfter n k in
     rw (
       front-same s (withHalfword i h s) (n * 4) (b .cells) (λ j l. halfword-kept s i h j (omega arith)),
-      column-more 2 (h .word) s n k h (b .memory) (omega arith) room (word-put s i h room),
-      column-more 1 (h .protect) s n k h (b .protect) (omega arith) room (protect-put s i h room),
+      each-more putWord s n k h (b .memory) room,
+      each-more putMark s n k h (b .protect) room,
     )
 
-pub landing-none : (s : List ℕ) (m p : ℕ) → Landing s 0 0 m p
-landing-none s m p = record { inside = omega arith; word = λ j l. absurd (omega arith); protected = λ j l. absurd (omega arith); digit = λ j l. absurd (omega arith) }
+pub landing-none : (s : List ℕ) (m : ℕ) → Landing s 0 0 m
+landing-none s m = record { inside = omega arith; word = λ j l. absurd (omega arith); digit = λ j l. absurd (omega arith) }
 
 -- no halfwords yet
-landing-first : (s : List ℕ) (n k m p : ℕ) → k ≡ 0 → n * 4 ≤ 16384 → Landing s n k m p
-landing-first s n k m p z l = record { inside = omega arith; word = λ j h. absurd (omega arith); protected = λ j h. absurd (omega arith); digit = λ j h. absurd (omega arith) }
+landing-first : (s : List ℕ) (n k m : ℕ) → k ≡ 0 → n * 4 ≤ 16384 → Landing s n k m
+landing-first s n k m z l = record { inside = omega arith; word = λ j h. absurd (omega arith); digit = λ j h. absurd (omega arith) }
 
-pub landing-with : (g : Given) (n k : ℕ) (s : List ℕ) (c m p : ℕ) → length s ≡ 16384 → Follows g k → placeAfter n k + valuesIn g ≤ 16384 → Storable g n c m p
-    → Landing s n k m p → Landing (stagedWith g n k s) (ordersWith g n) (halfwordsWith g k) m p
+pub landing-with : (g : Given) (n k : ℕ) (s : List ℕ) (c m : ℕ) → length s ≡ 16384 → Follows g k → placeAfter n k + valuesIn g ≤ 16384 → Storable g n c m
+    → Landing s n k m → Landing (stagedWith g n k s) (ordersWith g n) (halfwordsWith g k) m
 unfolding stagedWith
-landing-with headed n k s c m p z f room fits l = l
-landing-with (ordered o) n k s c m p z f room fits l = landing-first (withCells n o s) (n + 1) k m p f (omega arith)
-landing-with parted n k s c m p z f room fits l = l
-landing-with (stored h) n k s c m p z f room fits l =
+landing-with headed n k s c m z f room fits l = l
+landing-with (ordered o) n k s c m z f room fits l = landing-first (withCells n o s) (n + 1) k m f (omega arith)
+landing-with parted n k s c m z f room fits l = l
+landing-with (stored h) n k s c m z f room fits l =
     let i = placeAfter n k in
     let full : i + 3 ≤ length s = omega arith in
     record {
       inside = omega arith;
       word = below-more (λ (j : ℕ). getD (withHalfword i h s) (placeAfter n j) 0 < m) k (λ j q. rw (halfword-kept s i h (placeAfter n j) (omega arith)) (l .word j q)) (rw (at-put s i h full) (fits .0));
-      protected = below-more (λ (j : ℕ). getD (withHalfword i h s) (placeAfter n j) 0 < p) k (λ j q. rw (halfword-kept s i h (placeAfter n j) (omega arith)) (l .protected j q)) (rw (at-put s i h full) (fits .1));
-      digit = below-more (λ (j : ℕ). getD (withHalfword i h s) (placeAfter n j + 1) 0 < 2) k (λ j q. rw (halfword-kept s i h (placeAfter n j + 1) (omega arith)) (l .digit j q)) (rw (protect-put s i h full) (fits .2));
+      digit = below-more (λ (j : ℕ). getD (withHalfword i h s) (placeAfter n j + 1) 0 < 2) k (λ j q. rw (halfword-kept s i h (placeAfter n j + 1) (omega arith)) (l .digit j q)) (rw (protect-put s i h full) (fits .1));
     }
 
 -- ---- copied out
@@ -169,12 +175,21 @@ pub front-next : (s : List ℕ) (m : ℕ) (c now : List ℕ) → now ≡ withFro
 unfolding withFront
 front-next s m c now e = rw (add-one m, e)
 
-pub column-length : (into : ℕ) (s : List ℕ) (n k : ℕ) (m : List ℕ) → length (withColumn into s n k m) ≡ length m
-unfolding withColumn
-column-length into s n zero m = refl
-column-length into s n (suc k) m = length-set (withColumn into s n k m) _ _ ∙ column-length into s n k m
+pub each-next : {W : Type 0} (put : Halfword → W → W) (s : List ℕ) (n k : ℕ) (w now : W) → now ≡ withEach put s n k w
+    → put (halfwordAt s (placeAfter n k)) now ≡ withEach put s n (k + 1) w
+unfolding withEach
+each-next put s n k w now e = rw (add-one k, e)
 
-pub column-next : (into : ℕ) (s : List ℕ) (n k : ℕ) (m now : List ℕ) → now ≡ withColumn into s n k m
-    → set now (getD s (placeAfter n k) 0) (getD s (placeAfter n k + into) 0) ≡ withColumn into s n (k + 1) m
-unfolding withColumn
-column-next into s n k m now e = rw (add-one k, e)
+-- a size that one halfword keeps is kept by all
+each-size : {W : Type 0} (put : Halfword → W → W) (size : W → ℕ) → ((h : Halfword) (w : W) → size (put h w) ≡ size w)
+    → (s : List ℕ) (n k : ℕ) (w : W) → size (withEach put s n k w) ≡ size w
+unfolding withEach
+each-size put size keeps s n zero w = refl
+each-size put size keeps s n (suc k) w = keeps (halfwordAt s (placeAfter n k)) (withEach put s n k w) ∙ each-size put size keeps s n k w
+
+pub words-length : (s : List ℕ) (n k : ℕ) (m : List ℕ) → length (withWords s n k m) ≡ length m
+words-length s n k m = each-size putWord length (λ h w. length-set w (h .at) (h .word)) s n k m
+
+pub marks-length : (s : List ℕ) (n k : ℕ) (p : ProtectList) → length (withProtects s n k p .bytes) ≡ length (p .bytes)
+unfolding withMark
+marks-length s n k p = each-size putMark (λ (x : ProtectList). length (x .bytes)) (λ h w. length-set (w .bytes) _ _) s n k p

@@ -7,14 +7,18 @@ use lib.ListN.{length, getD}
 use lib.Seq.{getD-set-same}
 use Rattle.hexfloat.specs.Answer.{gives}
 use Rattle.orders.specs.Order.{orderAt}
+use Rattle.protection.specs.Form.{isProtected, withMark}
+use Rattle.protection.specs.Bits.{bitForm}
 use Rattle.decktext.specs.Text.{Line, ended, linesOf}
 use Rattle.decktext.specs.Read.{Buffers, refused, taken, Outcome, Progress, start, Given, ordered, stored, order, lineRead, bufferedWith, progressed, Read, whole, faulty, concludedWith, linesRead, readText}
 use Rattle.decktext.specs.Theorems.{Through, FirstFault, Written, Reader}
 use Rattle.decktext.proofs.Cells.{order-put}
 use Rattle.decktext.proofs.Forms.{sound-fits}
 use Rattle.decktext.proofs.Laws.{accepted}
+use Rattle.decktext.proofs.Marks.{marked-here}
 use Rattle.decktext.proofs.Passing.{front, through, skip, first-fault, all-kept, Kept, line-sound, Counted, all-counted, wanted-by}
 use Rattle.decktext.proofs.Numbers.{numbered, counted}
+use Rattle.decktext.proofs.Packed.{as-before}
 use Rattle.decktext.proofs.Readings.{apart, within-limit}
 use Rattle.decktext.proofs.Walking.{textRead}
 
@@ -56,7 +60,7 @@ module _ (t : List ℕ) (b : Buffers) (n : ℕ) (taken-in : readText t b .said �
   held-after = ap (λ (o : Outcome). o .after) (accepted t b n taken-in .reading)
 
 written : (t : List ℕ) (b : Buffers) (n : ℕ) → readText t b .said ≡ taken n → Written t b
-unfolding progressed bufferedWith
+unfolding progressed bufferedWith withMark
 written t b n h = record {
   through = λ before after cut.
       let a = accepted t b n h in
@@ -68,19 +72,20 @@ written t b n h = record {
       let c : Counted (p .wanted) (p .count) (0 + length before) = all-counted before (start b) p 0 gone (refl, refl) in
       let w : Counted order (p .count) (0 + length before) = rw (wanted-by s) at c in (
         omega arith,
-        ap (λ (x : Buffers). orderAt (x .cells) (p .count)) e ∙ k .cells (p .count) (omega arith) ∙ order-put (p .held .cells) (p .count) o (sound-fits s),
+        ap (λ (x : Buffers). orderAt (x .cells) (p .count)) e ∙ k .cells (p .count) (omega arith) ∙ order-put (p .held .cells) (p .count) o (sound-fits s .0),
       );
   word = λ before after line p m cut gone given.
       let s = sound-fits (line-sound p line (stored m) given) in
       let k = rest-kept t b n h before after line p cut gone (stored m) given in
       let e = held-after t b n h before after line p cut gone (stored m) given in
-      ap (λ (x : Buffers). getD (x .memory) (m .at) 0) e ∙ k .memory (m .at) (omega arith) ∙ getD-set-same (p .held .memory) (m .at) (m .word) 0 (s .0);
-  protect = λ before after line p m cut gone given.
+      ap (λ (x : Buffers). getD (x .memory) (m .at) 0) e ∙ k .memory (m .at) (omega arith) ∙ getD-set-same (p .held .memory) (m .at) (m .word) 0 (s .0 .0);
+  protect = λ packed before after line p m cut gone given.
       let s = sound-fits (line-sound p line (stored m) given) in
       let k = rest-kept t b n h before after line p cut gone (stored m) given in
       let e = held-after t b n h before after line p cut gone (stored m) given in
-      ap (λ (x : Buffers). getD (x .protect) (m .at) 0) e ∙ k .protect (m .at) (omega arith) ∙ getD-set-same (p .held .protect) (m .at) (m .protect) 0 (s .1);
+      let form : p .held .protect .form ≡ bitForm = all-kept before (start b) p gone .form ∙ packed in
+      ap (λ (x : Buffers). isProtected (x .protect) (m .at)) e ∙ k .protect form (m .at) (omega arith) ∙ marked-here (p .held .protect) form (m .at) (m .protect) (s .0 .1) (s .1);
 }
 
 pub reader : Reader
-reader = record { refusal = refusal; accepted = written; numbered = numbered; counted = counted }
+reader = record { refusal = refusal; accepted = written; numbered = numbered; counted = counted; as-before = as-before }

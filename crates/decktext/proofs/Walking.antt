@@ -5,6 +5,7 @@ use mathlib.Core.List.{List}
 use native.Mathlib.Omega.{arith}
 use lib.ListN.{length, drop, length-set}
 use Rattle.hexfloat.specs.Answer.{gives, stops}
+use Rattle.protection.specs.Form.{withMark}
 use Rattle.decktext.specs.declared.deck.Found.{Found}
 use Rattle.decktext.specs.declared.line.Progress.{Progress as Place}
 use Rattle.decktext.specs.declared.line.Sizes.{Sizes}
@@ -44,7 +45,7 @@ pub record Walking (t : List ℕ) (b : Buffers) (s : Sizes) (p : Place) (at line
   pub half : placeAfter (p .count) k * 2 ≤ at
   pub size : length staged ≡ 16384
   pub early : Early (wantedOf (p .wanted)) k
-  pub landing : Landing staged (p .count) k (s .memory) (s .protect)
+  pub landing : Landing staged (p .count) k (s .memory)
 
 pub start : {t : List ℕ} {b : Buffers} {s : Sizes} {p : Place} {staged : List ℕ} → Sized b s → progressOf p b ≡ begun b → length staged ≡ 16384 → Walking t b s p 0 1 0 staged
 start {t} {b} {s} {p} {staged} z e size =
@@ -60,17 +61,17 @@ start {t} {b} {s} {p} {staged} z e size =
       half = omega arith;
       size = size;
       early = subst (λ (x : Wanted). Early x 0) w refl;
-      landing = rw n (landing-none staged (s .memory) (s .protect));
+      landing = rw n (landing-none staged (s .memory));
     }
 
 -- ---- a line
 
 sized-with : (g : Given) (n : ℕ) (b : Buffers) (s : Sizes) → Sized b s → Sized (bufferedWith g n b) s
-unfolding bufferedWith
+unfolding bufferedWith withMark
 sized-with headed n b s z = z
-sized-with (ordered o) n b s z = record { cells = simp length-set (z .cells); memory = z .memory; protect = z .protect }
+sized-with (ordered o) n b s z = record { cells = simp length-set (z .cells); memory = z .memory; protect = z .protect; packed = z .packed }
 sized-with parted n b s z = z
-sized-with (stored h) n b s z = record { cells = z .cells; memory = simp length-set (z .memory); protect = simp length-set (z .protect) }
+sized-with (stored h) n b s z = record { cells = z .cells; memory = simp length-set (z .memory); protect = simp length-set (z .protect); packed = z .packed }
 
 count-with : (g : Given) (p : Progress) → progressed g p .count ≡ ordersWith g (p .count)
 unfolding progressed
@@ -112,10 +113,8 @@ module _ {t : List ℕ} {b : Buffers} {s : Sizes} {p : Place} {at line k : ℕ} 
       pub stageable : length t ≤ 32768 → placeAfter (p .count) k + valuesIn g ≤ 16384
       stageable limit = omega (arith, halves)
 
-      fits-sizes : Storable g (p .count) (s .cells) (s .memory) (s .protect)
-      fits-sizes =
-          rw (← r .sized .cells, ← r .sized .memory, ← r .sized .protect)
-          (sound-fits given-sound)
+      fits-sizes : Storable g (p .count) (s .cells) (s .memory)
+      fits-sizes = rw (← r .sized .cells, ← r .sized .memory) (sound-fits given-sound .0)
 
       pub on : length t ≤ 32768 → (next : Place) → ((x : Buffers) → progressOf next (bufferedWith g (p .count) x) ≡ progressed g (progressOf p x))
           → (to : ℕ) → to ≡ e + 1 → (more : ℕ) → more ≡ halfwordsWith g k → (after : List ℕ) → after ≡ stagedWith g (p .count) k staged
@@ -138,7 +137,7 @@ module _ {t : List ℕ} {b : Buffers} {s : Sizes} {p : Place} {at line k : ℕ} 
             half = rw (n, halfwords, place-with g (p .count) k) (omega (arith, halves, past));
             size = rw put (size-with g (p .count) k staged ∙ r .size);
             early = rw (w, halfwords) (early-with k refl given-sound (r .early));
-            landing = rw (put, n, halfwords) (landing-with g (p .count) k staged (s .cells) (s .memory) (s .protect) (r .size) behind wide fits-sizes (r .landing));
+            landing = rw (put, n, halfwords) (landing-with g (p .count) k staged (s .cells) (s .memory) (r .size) behind wide fits-sizes (r .landing));
           }
 
     pub stopped : e < length t → (n : ℕ) → lineRead (reached p k staged b) (part at e t) ≡ stops n → textRead t b ≡ faulty n line
@@ -155,7 +154,7 @@ pub record Left (t : List ℕ) (b : Buffers) (p : Place) (fault : Fault) (line k
   pub said : concluded fault line p ≡ saidOf (textRead t b)
   pub end : (q : Progress) → textRead t b ≡ whole q → q ≡ reached p k staged b
   pub orders : p .count * 4 ≤ 16384
-  pub landing : Landing staged (p .count) k (length (b .memory)) (length (b .protect))
+  pub landing : Landing staged (p .count) k (length (b .memory))
 
 -- a whole text is no faulty one
 pub other : {n k : ℕ} {q : Progress} {C : Type 0} → faulty n k ≡ whole q → C
@@ -187,7 +186,7 @@ module _ {t : List ℕ} {b : Buffers} {s : Sizes} {p : Place} {at line k : ℕ} 
     said = said;
     end = end;
     orders = omega (arith, r .half, r .reach);
-    landing = rw (r .first .memory, r .first .protect) (r .landing);
+    landing = rw (r .first .memory) (r .landing);
   }
 
   end-read : length t ≤ at → textRead t b ≡ endRead (wantedOf (p .wanted)) (reached p k staged b) line

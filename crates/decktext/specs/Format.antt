@@ -39,7 +39,7 @@ orderFrom (m ∷ a ∷ b ∷ c ∷ d ∷ vs) = stops 16
 unfoldable pub orderOf : List ℕ → Answer Order
 orderOf line = orderFrom (valuesOf line)
 
--- a halfword of memory with its protect byte
+-- a halfword of memory with its protect digit
 pub record Halfword : Type 0 where
   pub at : ℕ
   pub protect : ℕ

@@ -5,6 +5,7 @@ use mathlib.Core.Bool.{cond}
 use lib.ListN.{length, set}
 use lib.Dec.{leb, ltb}
 use Rattle.hexfloat.specs.Answer.{Answer, gives, stops, provided, andThen}
+use Rattle.protection.specs.Form.{ProtectList, holds, withMark}
 use Rattle.orders.specs.declared.order.Order.{Order}
 use Rattle.decktext.specs.declared.deck.Reading.{Reading}
 use Rattle.decktext.specs.declared.fault.Fault.{Fault}
@@ -12,13 +13,13 @@ use Rattle.decktext.specs.Fault.{faultNumber}
 use Rattle.decktext.specs.Text.{Line, ended, unended, linesOf, same}
 use Rattle.decktext.specs.Format.{deckHeading, storageHeading, orderOf, Halfword, halfwordOf}
 
--- cells of the deck, memory and protect list
+-- cells of the deck, memory and protect list, in whatever form that is kept
 pub record Buffers : Type 0 where
   pub cells : List ℕ
   pub memory : List ℕ
-  pub protect : List ℕ
+  pub protect : ProtectList
 
-abbrev pub buffers : List ℕ → List ℕ → List ℕ → Buffers
+abbrev pub buffers : List ℕ → List ℕ → ProtectList → Buffers
 buffers c m p = record { cells = c; memory = m; protect = p }
 
 -- the order count, or the number and the line of a refusal
@@ -75,12 +76,12 @@ pub data Given : Type 0 where
 abbrev pub orderFits : Progress → Order → Answer Given
 orderFits p o = provided (leb (p .count * 4 + 4) (length (p .held .cells))) 17 (gives (ordered o))
 
--- `at` rises strictly; a 17 where it is past the end of memory or of the protect list
+-- `at` rises strictly; a 17 where it is past the end of memory, or its byte is past the end of the protect list
 abbrev pub halfwordFits : Progress → Halfword → Answer Given
 halfwordFits p h =
     provided (leb (p .least) (h .at)) 16
     (provided (ltb (h .at) (length (p .held .memory))) 17
-    (provided (ltb (h .at) (length (p .held .protect))) 17
+    (provided (holds (p .held .protect) (h .at)) 17
     (gives (stored h))))
 
 -- one line: what it gives, or its fault, 16 before 17
@@ -109,7 +110,7 @@ unfoldable pub bufferedWith : Given → ℕ → Buffers → Buffers
 bufferedWith headed n b = b
 bufferedWith (ordered o) n b = buffers (withCells n o (b .cells)) (b .memory) (b .protect)
 bufferedWith parted n b = b
-bufferedWith (stored h) n b = buffers (b .cells) (set (b .memory) (h .at) (h .word)) (set (b .protect) (h .at) (h .protect))
+bufferedWith (stored h) n b = buffers (b .cells) (set (b .memory) (h .at) (h .word)) (withMark (h .at) (h .protect) (b .protect))
 
 -- the progress with what a line gives
 unfoldable pub progressed : Given → Progress → Progress

@@ -3,6 +3,7 @@
 use Prim.Native.Nat.{ℕ, zero, suc, _+_, _*_, _≤_, _<_}
 use mathlib.Core.List.{List}
 use lib.ListN.{getD, set}
+use Rattle.protection.specs.Form.{ProtectList, withMark}
 use Rattle.decktext.specs.Format.{Halfword}
 use Rattle.decktext.specs.Read.{Buffers, buffers, Given, headed, ordered, parted, stored, withCells}
 
@@ -39,25 +40,34 @@ unfoldable pub withFront : List ℕ → ℕ → List ℕ → List ℕ
 withFront s zero c = c
 withFront s (suc m) c = set (withFront s m c) m (getD s m 0)
 
--- a buffer with one value of each of k halfwords, the one so far into it, at the address that the halfword names; n orders came before
-unfoldable pub withColumn : ℕ → List ℕ → ℕ → ℕ → List ℕ → List ℕ
-withColumn into s n zero m = m
-withColumn into s n (suc k) m = set (withColumn into s n k m) (getD s (placeAfter n k) 0) (getD s (placeAfter n k + into) 0)
+-- the halfword that is staged at a place
+abbrev pub halfwordAt : List ℕ → ℕ → Halfword
+halfwordAt s i = record { at = getD s i 0; protect = getD s (i + 1) 0; word = getD s (i + 2) 0 }
+
+-- a buffer with each of k halfwords put into it in turn; n orders came before
+unfoldable pub withEach : {W : Type 0} → (Halfword → W → W) → List ℕ → ℕ → ℕ → W → W
+withEach put s n zero w = w
+withEach put s n (suc k) w = put (halfwordAt s (placeAfter n k)) (withEach put s n k w)
 
 -- memory with the words, and the protect list with the protect digits
-abbrev pub withWords : List ℕ → ℕ → ℕ → List ℕ → List ℕ
-withWords s n k m = withColumn 2 s n k m
+abbrev pub putWord : Halfword → List ℕ → List ℕ
+putWord h m = set m (h .at) (h .word)
 
-abbrev pub withProtects : List ℕ → ℕ → ℕ → List ℕ → List ℕ
-withProtects s n k p = withColumn 1 s n k p
+abbrev pub putMark : Halfword → ProtectList → ProtectList
+putMark h p = withMark (h .at) (h .protect) p
+
+abbrev pub withWords : List ℕ → ℕ → ℕ → List ℕ → List ℕ
+withWords s n k m = withEach putWord s n k m
+
+abbrev pub withProtects : List ℕ → ℕ → ℕ → ProtectList → ProtectList
+withProtects s n k p = withEach putMark s n k p
 
 -- the buffers that n orders and k halfwords stand for
 abbrev pub replayed : List ℕ → ℕ → ℕ → Buffers → Buffers
 replayed s n k b = buffers (withFront s (n * 4) (b .cells)) (withWords s n k (b .memory)) (withProtects s n k (b .protect))
 
--- the halfwords are inside the staging array, and land inside memory and the protect list
-pub record Landing (s : List ℕ) (n k memory protect : ℕ) : Type 0 where
+-- the halfwords are inside the staging array, land inside memory, and have a protect digit
+pub record Landing (s : List ℕ) (n k memory : ℕ) : Type 0 where
   pub inside : placeAfter n k ≤ 16384
   pub word : (j : ℕ) → j < k → getD s (placeAfter n j) 0 < memory
-  pub protected : (j : ℕ) → j < k → getD s (placeAfter n j) 0 < protect
   pub digit : (j : ℕ) → j < k → getD s (placeAfter n j + 1) 0 < 2

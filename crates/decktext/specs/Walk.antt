@@ -7,6 +7,7 @@ use lib.ListN.{length, getD}
 use lib.Dec.{eqb, leb, ltb}
 use Rattle.hexfloat.specs.Answer.{Answer, gives, stops, provided, andThen}
 use Rattle.orders.specs.declared.order.Order.{Order}
+use Rattle.protection.specs.Bits.{bitForm}
 use Rattle.decktext.specs.declared.deck.Found.{Found}
 use Rattle.decktext.specs.declared.fault.Fault.{Fault}
 use Rattle.decktext.specs.declared.given.Given.{Given as GivenLine}
@@ -79,18 +80,19 @@ faultOf Judged.NoRoom = Fault.NoRoom
 abbrev pub progressOf : Place → Buffers → Progress
 progressOf p b = record { wanted = wantedOf (p .wanted); count = p .count; least = p .least; held = b }
 
--- buffers of these sizes
+-- buffers of these sizes, with a packed protect list
 pub record Sized (b : Buffers) (s : Sizes) : Type 0 where
   pub cells : length (b .cells) ≡ s .cells
   pub memory : length (b .memory) ≡ s .memory
-  pub protect : length (b .protect) ≡ s .protect
+  pub protect : length (b .protect .bytes) ≡ s .protect
+  pub packed : b .protect .form ≡ bitForm
 
 -- what a line gives fits buffers of these lengths; n orders came before
-abbrev pub Storable : Given → ℕ → ℕ → ℕ → ℕ → Type 0
-Storable headed n c m p = Unit {0}
-Storable (ordered o) n c m p = n * 4 + 4 ≤ c
-Storable parted n c m p = Unit {0}
-Storable (stored h) n c m p = (h .at < m) × (h .at < p) × (h .protect < 2)
+abbrev pub Storable : Given → ℕ → ℕ → ℕ → Type 0
+Storable headed n c m = Unit {0}
+Storable (ordered o) n c m = n * 4 + 4 ≤ c
+Storable parted n c m = Unit {0}
+Storable (stored h) n c m = (h .at < m) × (h .protect < 2)
 
 -- how many values a line of so many bytes has: none for a heading and for the empty line
 abbrev pub valueCount : Wanted → ℕ → ℕ
@@ -144,4 +146,4 @@ pub record Walked (t : List ℕ) (b : Buffers) (staged : List ℕ) (r : Found) :
   pub said : saysReading (r .reading) ≡ saidOf (linesRead (linesOf t) (start b) 1)
   pub held : (p : Progress) → linesRead (linesOf t) (start b) 1 ≡ whole p → p .held ≡ replayed staged (p .count) (r .halfwords) b
   pub orders : (p : Progress) → linesRead (linesOf t) (start b) 1 ≡ whole p → p .count * 4 ≤ 16384
-  pub landing : (p : Progress) → linesRead (linesOf t) (start b) 1 ≡ whole p → Landing staged (p .count) (r .halfwords) (length (b .memory)) (length (b .protect))
+  pub landing : (p : Progress) → linesRead (linesOf t) (start b) 1 ≡ whole p → Landing staged (p .count) (r .halfwords) (length (b .memory))

@@ -21,6 +21,7 @@ use crate::value::Value;
 ghost use mathlib.Core.Path.{_≡_};
 ghost use Prim.Native.Nat.{_≤_};
 ghost use lib.ListN.{length};
+ghost use Rattle.protection.specs.Bits.{bitwise};
 ghost use Rattle.decktext.specs.DigitTable.{DigitTable};
 ghost use Rattle.decktext.specs.Key.{SlotTable};
 ghost use Rattle.decktext.specs.Read.{buffers, outcome, saysReading, numberSaid, lineSaid, readText};
@@ -56,7 +57,8 @@ pub fn line_of(r: Reading) -> u32
 }
 
 pub fn read(text: &[u8], cells: &mut [u16], memory: &mut [u16], protect: &mut [u8]) -> Reading
-    ensures { λ r. ⌜ outcome (buffers (now (cells .exit)) (now (memory .exit)) (now (protect .exit))) (saysReading r) ≡ readText (now (text .entry)) (buffers (now (cells .entry)) (now (memory .entry)) (now (protect .entry))) ⌝ }
+    ensures { λ r. ⌜ outcome (buffers (now (cells .exit)) (now (memory .exit)) (bitwise (now (protect .exit)))) (saysReading r)
+        ≡ readText (now (text .entry)) (buffers (now (cells .entry)) (now (memory .entry)) (bitwise (now (protect .entry)))) ⌝ }
 {
     if 32768 < text.len() {
         return Reading::NoRoom(0);
@@ -92,7 +94,7 @@ fn walk(
     staged: &mut [u16; 16384],
 ) -> Found
     requires { ⌜ (length (now text) ≤ 32768) × (length (now staged) ≡ 16384) × DigitTable (now digits) × SlotTable (now slots) ⌝ }
-    ensures { λ r. ⌜ Walked (now (text .entry)) (buffers (now (cells .entry)) (now (memory .entry)) (now (protect .entry))) (now (staged .exit)) r ⌝ }
+    ensures { λ r. ⌜ Walked (now (text .entry)) (buffers (now (cells .entry)) (now (memory .entry)) (bitwise (now (protect .entry)))) (now (staged .exit)) r ⌝ }
 {
     let sizes = sizes_of(cells.len(), memory.len(), protect.len());
     let mut p = start();

@@ -1,8 +1,10 @@
 // What a line gives, staged until the whole text is known to be good.
 use orders::Order;
+use protection::mark;
 ghost use mathlib.Core.Path.{_≡_};
 ghost use Prim.Native.Nat.{_+_, _*_, _≤_};
 ghost use lib.ListN.{length};
+ghost use Rattle.protection.specs.Bits.{bitwise};
 ghost use Rattle.decktext.specs.Walk.{givenOf};
 ghost use Rattle.decktext.specs.Staged.{placeAfter, valuesIn, halfwordsWith, stagedWith, withFront, withWords, withProtects, Landing};
 
@@ -67,15 +69,15 @@ pub fn put_halfwords(
     memory: &mut [u16],
     protect: &mut [u8],
 )
-    requires { ⌜ Landing (now staged) n count (length (now memory)) (length (now protect)) ⌝ }
-    ensures { λ _. ⌜ (now (memory .exit) ≡ withWords (now (staged .entry)) n count (now (memory .entry))) × (now (protect .exit) ≡ withProtects (now (staged .entry)) n count (now (protect .entry))) ⌝ }
+    requires { ⌜ Landing (now staged) n count (length (now memory)) ⌝ }
+    ensures { λ _. ⌜ (now (memory .exit) ≡ withWords (now (staged .entry)) n count (now (memory .entry))) × (bitwise (now (protect .exit)) ≡ withProtects (now (staged .entry)) n count (bitwise (now (protect .entry)))) ⌝ }
 {
     let mut k = 0;
     while k < count {
         let i = n as usize * 4 + k * 3;
         let at = staged[i] as usize;
         memory[at] = staged[i + 2];
-        protect[at] = staged[i + 1] as u8;
+        mark(protect, at, staged[i + 1] == 1);
         k += 1;
     }
 }

@@ -9,6 +9,7 @@ use crate::value::protect;
 use crate::value::word;
 use orders::Legality;
 use orders::Order;
+use protection::byte_of;
 ghost use mathlib.Core.Path.{_≡_};
 ghost use mathlib.Core.Bool.{cond};
 ghost use Prim.Native.Nat.{_<_};
@@ -199,7 +200,7 @@ fn judge_halfword(p: Progress, h: Halfword, s: Sizes) -> Judged
     if s.memory <= i {
         return Judged::NoRoom;
     }
-    if s.protect <= i {
+    if s.protect <= byte_of(i) {
         return Judged::NoRoom;
     }
     Judged::Gives(Given::Stored(h))

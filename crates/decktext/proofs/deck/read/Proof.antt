@@ -3,6 +3,7 @@ use denote.Enum.Declared.{tagOf}
 use Prim.Native.Nat.{ℕ, _≤_}
 use lib.ListN.{length}
 use borrow.Author.Tests.{lt-ltb}
+use Rattle.protection.specs.Bits.{bitwise}
 use Rattle.decktext.specs.declared.deck.Reading.{Reading}
 use Rattle.decktext.specs.Read.{Buffers, buffers, readText}
 use Rattle.decktext.proofs.Laws.{taken-fits}
@@ -22,7 +23,7 @@ abbrev entry : tie.After-walk → tie.Start
 entry c = c .before .before .before .before .before .before .before .before .before .before .before .before .before .before
 
 abbrev lent : tie.After-walk → Buffers
-lent c = buffers (entry c .args .cells .now) (entry c .args .memory .now) (entry c .args .protect .now)
+lent c = buffers (entry c .args .cells .now) (entry c .args .memory .now) (bitwise (entry c .args .protect .now))
 
 limit : (c : tie.After-walk) → length (entry c .args .text .now) ≤ 32768
 limit c = c .before .before .before .before .before .before .before .before .before .if1 .left

@@ -5,6 +5,7 @@ use Rattle.decktext.specs.declared.fault.Fault.{Fault}
 use Rattle.decktext.specs.Fault.{faultNumber}
 use Rattle.decktext.specs.Walk.{Stretch, wantedOf, givenOf, saysJudged, valueCount, valueAs}
 use mathlib.Core.List.{List}
+use Rattle.protection.specs.Bits.{bitwise}
 use Rattle.decktext.specs.Read.{Buffers, Wanted, Progress, buffers, faulty, lineRead}
 use Rattle.decktext.specs.Value.{saysValue}
 use Rattle.hexfloat.specs.Answer.{gives, stops}
@@ -30,7 +31,7 @@ abbrev μ-loop : tie.MeasureT-loop
 μ-loop text cells memory protect digits slots staged sizes p at line k fault₀ end next w wanted values₀ from₀ i₀ fault values from i = wanted - i
 
 abbrev Inv-lines : tie.InvT-lines
-Inv-lines text cells memory protect digits slots staged₀ sizes p₀ at₀ line₀ k₀ fault₀ staged p at line k fault = (fault ≡ Fault.Nothing) × Walking text (buffers cells memory protect) sizes p at line k staged
+Inv-lines text cells memory protect digits slots staged₀ sizes p₀ at₀ line₀ k₀ fault₀ staged p at line k fault = (fault ≡ Fault.Nothing) × Walking text (buffers cells memory (bitwise protect)) sizes p at line k staged
 
 abbrev μ-lines : tie.MeasureT-lines
 μ-lines text cells memory protect digits slots staged₀ sizes p₀ at₀ line₀ k₀ fault₀ staged p at line k fault = length text - at
@@ -40,7 +41,7 @@ abbrev text : tie.At-lines Inv-loop μ-loop Inv-lines μ-lines → List ℕ
 text c = c .before .before .before .before .before .before .before .before .before .args .text .now
 
 abbrev lent : tie.At-lines Inv-loop μ-loop Inv-lines μ-lines → Buffers
-lent c = buffers (c .before .before .before .before .before .before .before .before .before .args .cells .now) (c .before .before .before .before .before .before .before .before .before .args .memory .now) (c .before .before .before .before .before .before .before .before .before .args .protect .now)
+lent c = buffers (c .before .before .before .before .before .before .before .before .before .args .cells .now) (c .before .before .before .before .before .before .before .before .before .args .memory .now) (bitwise (c .before .before .before .before .before .before .before .before .before .args .protect .now))
 
 abbrev progress : tie.At-lines Inv-loop μ-loop Inv-lines μ-lines → Progress
 progress c = reached (c .lines .p) (c .lines .halfwords) (c .lines .staged) (lent c)
@@ -123,7 +124,7 @@ start-requires : tie.Need-start-requires Inv-loop μ-loop Inv-lines μ-lines
 start-requires c κs = search needs
 
 lines-holds : tie.Need-lines-holds Inv-loop μ-loop Inv-lines μ-lines
-lines-holds c = (refl, start (record { cells = sym (c .before .sizes-of .ensures .0); memory = sym (c .before .sizes-of .ensures .1); protect = sym (c .before .sizes-of .ensures .2) }) (c .start .ensures (buffers (c .before .before .before .before .before .before .before .before .args .cells .now) (c .before .before .before .before .before .before .before .before .args .memory .now) (c .before .before .before .before .before .before .before .before .args .protect .now))) (c .before .before .before .before .before .before .before .before .pre .1))
+lines-holds c = (refl, start (record { cells = sym (c .before .sizes-of .ensures .0); memory = sym (c .before .sizes-of .ensures .1); protect = sym (c .before .sizes-of .ensures .2); packed = refl }) (c .start .ensures (buffers (c .before .before .before .before .before .before .before .before .args .cells .now) (c .before .before .before .before .before .before .before .before .args .memory .now) (bitwise (c .before .before .before .before .before .before .before .before .args .protect .now)))) (c .before .before .before .before .before .before .before .before .pre .1))
 
 next-line-requires : tie.Need-next-line-requires Inv-loop μ-loop Inv-lines μ-lines
 next-line-requires c κs = search needs

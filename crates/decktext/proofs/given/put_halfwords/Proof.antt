@@ -1,21 +1,58 @@
 use borrow.Author.Needs.{needs}
-use Prim.Native.Nat.{_-_, _≤_}
+use Prim.Native.Nat.{ℕ, _-_, _≤_, _<_}
 use mathlib.Core.Path.{_≡_, refl, ap, _∙_}
+use mathlib.Core.Bool.{cond}
+use mathlib.Core.List.{List}
 use native.Mathlib.Omega.{arith}
+use lib.Dec.{eqb}
 use lib.ListN.{length}
-use Rattle.decktext.specs.Staged.{withColumn, withWords, withProtects}
-use Rattle.decktext.proofs.Staging.{column-length, column-next}
+use Rattle.protection.specs.Form.{ProtectList, withMark}
+use Rattle.protection.specs.Bits.{bitwise}
+use Rattle.protection.proofs.Unpacked.{digit-mark}
+use Rattle.decktext.specs.Format.{Halfword}
+use Rattle.decktext.specs.Staged.{placeAfter, halfwordAt, withEach, putWord, putMark, withWords, withProtects}
+use Rattle.decktext.proofs.Staging.{each-next, words-length, marks-length}
 use Rattle.decktext.proofs.given.put_halfwords.Statement.{statement}
 use Rattle.decktext.proofs.given.put_halfwords.Tie as tie
 
 abbrev Inv-loop : tie.InvT-loop
-Inv-loop staged n count memory₀ protect₀ k₀ memory protect k = (k ≤ count) × (memory ≡ withWords staged n k memory₀) × (protect ≡ withProtects staged n k protect₀)
+Inv-loop staged n count memory₀ protect₀ k₀ memory protect k = (k ≤ count) × (memory ≡ withWords staged n k memory₀) × (bitwise protect ≡ withProtects staged n k (bitwise protect₀))
 
 abbrev μ-loop : tie.MeasureT-loop
 μ-loop staged n count memory₀ protect₀ k₀ memory protect k = count - k
 
+-- at the head of the loop: what is staged, the orders before it, and the buffers that are lent
+abbrev staged : tie.At-loop Inv-loop μ-loop → List ℕ
+staged c = c .before .before .before .args .staged .now
+
+abbrev orders : tie.At-loop Inv-loop μ-loop → ℕ
+orders c = c .before .before .before .args .n
+
+abbrev memory : tie.At-loop Inv-loop μ-loop → List ℕ
+memory c = c .before .before .before .args .memory .now
+
+abbrev protect : tie.At-loop Inv-loop μ-loop → List ℕ
+protect c = c .before .before .before .args .protect .now
+
+-- the buffers keep their lengths
+memory-length : (c : tie.At-loop Inv-loop μ-loop) → length (c .loop .memory) ≡ length (memory c)
+memory-length c = ap length (c .loop .inv .1) ∙ words-length (staged c) (orders c) (c .loop .k) (memory c)
+
+protect-length : (c : tie.At-loop Inv-loop μ-loop) → length (c .loop .protect) ≡ length (protect c)
+protect-length c = ap (λ (p : ProtectList). length (p .bytes)) (c .loop .inv .2) ∙ marks-length (staged c) (orders c) (c .loop .k) (bitwise (protect c))
+
+-- the halfword that is put: it lands in memory, and its protect digit is the mark that is made
+abbrev halfword : tie.At-loop Inv-loop μ-loop → Halfword
+halfword c = halfwordAt (staged c) (placeAfter (orders c) (c .loop .k))
+
+lands : (c : tie.In-loop Inv-loop μ-loop) → halfword (c .before) .at < length (memory (c .before))
+lands c = c .before .before .before .before .pre .word (c .before .loop .k) (c .loop-test .taken)
+
+digit : (c : tie.In-loop Inv-loop μ-loop) → cond (eqb (halfword (c .before) .protect) 1) 1 0 ≡ halfword (c .before) .protect
+digit c = digit-mark (halfword (c .before) .protect) (c .before .before .before .before .pre .digit (c .before .loop .k) (c .loop-test .taken))
+
 loop-holds : tie.Need-loop-holds Inv-loop μ-loop
-unfolding withColumn
+unfolding withEach
 loop-holds c = (omega arith, refl, refl)
 
 mul-i : tie.Need-mul-i Inv-loop μ-loop
@@ -34,7 +71,7 @@ element-copy-out-at : tie.Need-element-copy-out-at Inv-loop μ-loop
 element-copy-out-at c = search needs
 
 cast-at : tie.Need-cast-at Inv-loop μ-loop
-cast-at c = omega (arith, c .before .before .before .pre .word (c .before .before .loop .k) (c .before .loop-test .taken))
+cast-at c = omega (arith, lands (c .before))
 
 add-memory : tie.Need-add-memory Inv-loop μ-loop
 add-memory c = search needs
@@ -46,25 +83,22 @@ element-copy-out-memory : tie.Need-element-copy-out-memory Inv-loop μ-loop
 element-copy-out-memory c = search needs
 
 mul-memory-2 : tie.Need-mul-memory-2 Inv-loop μ-loop
-mul-memory-2 c = search (needs, c .before .before .before .before .pre .word (c .before .before .before .loop .k) (c .before .before .loop-test .taken))
+mul-memory-2 c = search (needs, lands (c .before .before))
 
 slice-write-memory : tie.Need-slice-write-memory Inv-loop μ-loop
-slice-write-memory c = let e = ap length (c .before .before .before .loop .inv .1) ∙ column-length 2 (c .before .before .before .before .args .staged .now) (c .before .before .before .before .args .n) (c .before .before .before .loop .k) (c .before .before .before .before .args .memory .now) in omega (arith, c .before .before .before .before .pre .word (c .before .before .before .loop .k) (c .before .before .loop-test .taken))
+slice-write-memory c = omega (arith, lands (c .before .before), memory-length (c .before .before .before))
 
-add-protect : tie.Need-add-protect Inv-loop μ-loop
-add-protect c = search needs
+add-mark : tie.Need-add-mark Inv-loop μ-loop
+add-mark c = search needs
 
-mul-protect : tie.Need-mul-protect Inv-loop μ-loop
-mul-protect c = search needs
+mul-mark : tie.Need-mul-mark Inv-loop μ-loop
+mul-mark c = search needs
 
-element-copy-out-protect : tie.Need-element-copy-out-protect Inv-loop μ-loop
-element-copy-out-protect c = search needs
+element-copy-out-mark : tie.Need-element-copy-out-mark Inv-loop μ-loop
+element-copy-out-mark c = search needs
 
-cast-protect : tie.Need-cast-protect Inv-loop μ-loop
-cast-protect c = omega (arith, c .before .before .before .before .before .pre .digit (c .before .before .before .before .loop .k) (c .before .before .before .loop-test .taken))
-
-slice-write-protect : tie.Need-slice-write-protect Inv-loop μ-loop
-slice-write-protect c = let e = ap length (c .before .before .before .before .loop .inv .2) ∙ column-length 1 (c .before .before .before .before .before .args .staged .now) (c .before .before .before .before .before .args .n) (c .before .before .before .before .loop .k) (c .before .before .before .before .before .args .protect .now) in omega (arith, c .before .before .before .before .before .pre .protected (c .before .before .before .before .loop .k) (c .before .before .before .loop-test .taken))
+mark-requires : tie.Need-mark-requires Inv-loop μ-loop
+mark-requires c κs = search needs
 
 add-k : tie.Need-add-k Inv-loop μ-loop
 add-k c = search needs
@@ -73,20 +107,24 @@ loop-less : tie.Need-loop-less Inv-loop μ-loop
 loop-less c = search needs
 
 loop-again : tie.Need-loop-again Inv-loop μ-loop
-loop-again c = (
-  omega arith,
-  column-next 2 (c .before .before .before .before .before .args .staged .now) (c .before .before .before .before .before .args .n) (c .before .before .before .before .loop .k) (c .before .before .before .before .before .args .memory .now) (c .before .before .before .before .loop .memory) (c .before .before .before .before .loop .inv .1),
-  column-next 1 (c .before .before .before .before .before .args .staged .now) (c .before .before .before .before .before .args .n) (c .before .before .before .before .loop .k) (c .before .before .before .before .before .args .protect .now) (c .before .before .before .before .loop .protect) (c .before .before .before .before .loop .inv .2),
-)
+loop-again c =
+    let i = c .before .before .before .before .before .before .before in
+    let h = i .before in (
+      omega arith,
+      each-next putWord (staged h) (orders h) (h .loop .k) (memory h) (h .loop .memory) (h .loop .inv .1),
+      c .before .before .mark .ensures
+          ∙ ap (λ (v : ℕ). withMark (halfword h .at) v (bitwise (h .loop .protect))) (digit i)
+          ∙ each-next putMark (staged h) (orders h) (h .loop .k) (bitwise (protect h)) (bitwise (h .loop .protect)) (h .loop .inv .2),
+    )
 
 same-length : tie.Need-same-length Inv-loop μ-loop
-same-length c = ap length (c .before .loop .inv .1) ∙ column-length 2 (c .before .before .args .staged .now) (c .before .before .args .n) (c .before .loop .k) (c .before .before .args .memory .now)
+same-length c = memory-length (c .before)
 
 same-length-2 : tie.Need-same-length-2 Inv-loop μ-loop
-same-length-2 c = ap length (c .before .loop .inv .2) ∙ column-length 1 (c .before .before .args .staged .now) (c .before .before .args .n) (c .before .loop .k) (c .before .before .args .protect .now)
+same-length-2 c = protect-length (c .before)
 
 returns : tie.Need-returns Inv-loop μ-loop
-returns c = let e : c .before .loop .k ≡ c .before .before .args .count = omega arith in (rw e at (c .before .loop .inv .1), rw e at (c .before .loop .inv .2))
+returns c = let e : c .before .loop .k ≡ c .before .before .before .before .args .count = omega arith in (rw e at (c .before .loop .inv .1), rw e at (c .before .loop .inv .2))
 
 pub put-halfwords-spec : {M : Type 1} → statement M
 put-halfwords-spec =
@@ -106,11 +144,10 @@ put-halfwords-spec =
     element-copy-out-memory
     mul-memory-2
     slice-write-memory
-    add-protect
-    mul-protect
-    element-copy-out-protect
-    cast-protect
-    slice-write-protect
+    add-mark
+    mul-mark
+    element-copy-out-mark
+    mark-requires
     add-k
     loop-less
     loop-again
