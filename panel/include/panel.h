@@ -46,7 +46,9 @@ typedef struct {
 void panel_fresh(panel_state *state);
 
 /* Takes one step. Returns 0, or the number of the stop (1 to 13); a stop leaves everything as it was.
- * deck: four cells an order (code, r1, r2, at), deck_cells of them. protect: one byte a halfword of memory.
+ * deck: four cells an order (code, r1, r2, at), deck_cells of them. protect: one bit a halfword of memory, set if the
+ * halfword is protected: address a is bit a % 8 of byte a / 8, the lowest bit being bit 0. protect_bytes is
+ * memory_halfwords / 8 rounded up, and nothing else (2); bits past memory's end are never looked at.
  * journal: four words a record. */
 uint8_t panel_step(panel_state *state, const uint16_t *deck, size_t deck_cells, uint16_t *memory, size_t memory_halfwords,
                    const uint8_t *protect, size_t protect_bytes, uint32_t *journal, size_t journal_words);
@@ -71,7 +73,8 @@ panel_cause panel_why(const panel_state *state, const uint16_t *deck, size_t dec
                       size_t journal_words);
 
 /* Reads a deck text into cells, memory and protect list. The number is 0 and the value the order count, or the number is
- * 16 or 17 and the value the line; a refused text writes nothing. */
+ * 16 or 17 and the value the line; a refused text writes nothing. A memory line sets or clears the bit of its address
+ * and leaves the other bits of the byte; it is a 17 where that byte is not there. */
 panel_answer panel_read(const uint8_t *text, size_t text_bytes, uint16_t *cells, size_t cells_count, uint16_t *memory,
                         size_t memory_halfwords, uint8_t *protect, size_t protect_bytes);
 

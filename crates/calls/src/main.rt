@@ -42,7 +42,7 @@ fn run_deck(
 fn run_case(text: &[u8], calls: &[u8]) -> bool {
     let mut cells = [0u16; 16384];
     let mut memory = [0u16; 4096];
-    let mut protect = [0u8; 4096];
+    let mut protect = [0u8; 512];
     let mut journal = [0u32; 4096];
     let reading = decktext::read(text, &mut cells, &mut memory, &mut protect);
     let Reading::Taken(count) = reading else {

@@ -4,6 +4,7 @@ use native.Mathlib.Omega.{arith}
 use mathlib.Core.Path.{_≡_, refl, sym, ap, _∙_}
 use mathlib.Core.List.{List}
 use Rattle.hexfloat.specs.Answer.{Answer, gives, stops}
+use Rattle.protection.specs.Form.{ProtectList}
 use Rattle.machine.specs.declared.verdict.Effect.{Effect}
 use Rattle.machine.specs.Back.{backed}
 use Rattle.machine.specs.Machine.{Machine, machine, committed}
@@ -12,7 +13,7 @@ use Rattle.conditions.specs.Theorems.{Typed}
 use Rattle.conditions.proofs.Theorems.{theorems}
 use Rattle.example.specs.Return.{Returned}
 
-module _ (d p : List ℕ) (x : Machine) where
+module _ (d : List ℕ) (p : ProtectList) (x : Machine) where
   -- a step that is refused leaves all
   pub refused : {y : Machine} {k : ℕ} → (k ≡ 0 → ⊥) → single y k ≡ stepped d p x → Returned d p x y k 0
   refused {y} {k} nonzero e =

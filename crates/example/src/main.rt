@@ -4,9 +4,8 @@
 use machine::Ran;
 use machine::State;
 use machine::Stop;
-ghost use mathlib.Core.Path.{_≡_};
+ghost use Rattle.protection.specs.Bits.{bitwise};
 ghost use Rattle.machine.specs.Machine.{machine};
-ghost use Rattle.machine.specs.Step.{stepped};
 ghost use Rattle.machine.specs.Stops.{numberOf};
 ghost use Rattle.example.specs.Return.{Returned};
 
@@ -26,7 +25,7 @@ fn step_and_return(
     protect: &[u8],
     journal: &mut [u32],
 ) -> Return
-    ensures { λ r. ⌜ Returned (now (deck .entry)) (now (protect .entry)) (machine s (now (memory .entry)) (now (journal .entry)))
+    ensures { λ r. ⌜ Returned (now (deck .entry)) (bitwise (now (protect .entry))) (machine s (now (memory .entry)) (now (journal .entry)))
         (machine (r .state) (now (memory .exit)) (now (journal .exit))) (numberOf (r .step)) (numberOf (r .back)) ⌝ }
 {
     let there = machine::step(s, deck, memory, protect, journal);
@@ -95,7 +94,7 @@ fn main() {
     // LE 0 0 0, DE 0 0 2, CVFX 1 0 0, HALT 0 0 0
     let deck: [u16; 16] = [2, 0, 0, 0, 12, 0, 0, 2, 9, 1, 0, 0, 22, 0, 0, 0];
     let mut memory: [u16; 4] = [0x4130, 0, 0x4120, 0];
-    let protect: [u8; 4] = [0; 4];
+    let protect: [u8; 1] = [0; 1];
     let mut journal: [u32; 16] = [0; 16];
     let ran = machine::run(
         machine::fresh(),

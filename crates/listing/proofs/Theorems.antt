@@ -9,6 +9,7 @@ use lib.Dec.{eqb}
 use lib.ListN.{length, replicate, take, length-set}
 use borrow.Author.Tests.{eqb-false}
 use Rattle.hexfloat.specs.Answer.{Answer, gives, stops}
+use Rattle.protection.specs.Form.{ProtectList}
 use Rattle.machine.specs.declared.verdict.Effect.{Effect}
 use Rattle.machine.specs.Fresh.{freshState}
 use Rattle.machine.specs.Journal.{written}
@@ -22,7 +23,7 @@ use Rattle.decktext.specs.Read.{Buffers}
 use Rattle.listing.specs.Listing.{ranFrom}
 use Rattle.listing.specs.Theorems.{Desk}
 
-module _ (d p : List ℕ) where
+module _ (d : List ℕ) (p : ProtectList) where
   abbrev steps : ℕ → Machine → Outcome Machine
   steps n x = repeated (verdictOf d p) (λ y e. committed e y) n x
 

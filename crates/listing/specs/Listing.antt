@@ -2,6 +2,7 @@
 use Prim.Native.Nat.{ℕ, zero, suc, _*_, _+_}
 use mathlib.Core.List.{List, [], _∷_, _++_}
 use lib.ListN.{getD, take, replicate}
+use Rattle.protection.specs.Bits.{bitwise}
 use Rattle.machine.specs.declared.state.Registers.{Registers}
 use Rattle.machine.specs.Fresh.{freshState}
 use Rattle.machine.specs.Machine.{Machine, machine}
@@ -47,9 +48,9 @@ listed steps stop g =
     ++ (field steps 32 ++ (field stop 32 ++ (field (g .status .pointer) 32 ++ (field (g .status .condition) 32 ++ (field (g .status .mask) 10
     ++ (registerHeading ++ registerLines 8 (g .float) (g .general)))))))
 
--- 4,096 blank halfwords, unprotected, and cells for 4,096 orders
+-- 4,096 blank halfwords, unprotected, and cells for 4,096 orders; the protect list of 4,096 halfwords has 512 bytes
 abbrev pub blank : Buffers
-blank = buffers (replicate 16384 0) (replicate 4096 0) (replicate 4096 0)
+blank = buffers (replicate 16384 0) (replicate 4096 0) (bitwise (replicate 512 0))
 
 -- from a fresh state and a journal of 4,096 words, to a stop; the run gets the cells of the orders read
 abbrev pub ranFrom : ℕ → Buffers → Outcome Machine

@@ -21,7 +21,7 @@ pub fn answer(text: &[u8]) -> Listing
 {
     let mut cells = [0; 16384];
     let mut memory = [0; 4096];
-    let mut protect = [0; 4096];
+    let mut protect = [0; 512];
     let mut journal = [0; 4096];
     let reading = decktext::read(text, &mut cells, &mut memory, &mut protect);
     let Reading::Taken(count) = reading else {
@@ -47,7 +47,7 @@ pub fn reading(text: &[u8]) -> Reading
 {
     let mut cells = [0; 16384];
     let mut memory = [0; 4096];
-    let mut protect = [0; 4096];
+    let mut protect = [0; 512];
     decktext::read(text, &mut cells, &mut memory, &mut protect)
 }
 

@@ -12,6 +12,7 @@ use value::run_by_value;
 use value::step_by_value;
 use value::why_by_value;
 ghost use mathlib.Core.Path.{_≡_};
+ghost use Rattle.protection.specs.Bits.{bitwise};
 ghost use Rattle.machine.specs.Fresh.{freshState};
 ghost use Rattle.machine.specs.Machine.{machine};
 ghost use Rattle.machine.specs.Step.{single, stepped, outcome};
@@ -40,7 +41,7 @@ pub extern "C" fn panel_step(
     journal: &mut [u32],
 ) -> u8
     ensures { λ r. ⌜ single (machine (now (state .exit)) (now (memory .exit)) (now (journal .exit))) r
-        ≡ stepped (now (deck .entry)) (now (protect .entry)) (machine (now (state .entry)) (now (memory .entry)) (now (journal .entry))) ⌝ }
+        ≡ stepped (now (deck .entry)) (bitwise (now (protect .entry))) (machine (now (state .entry)) (now (memory .entry)) (now (journal .entry))) ⌝ }
 {
     let stepped = step_by_value(*state, deck, memory, protect, journal);
     *state = stepped.state;
@@ -58,7 +59,7 @@ pub extern "C" fn panel_run(
     limit: u32,
 ) -> Answer
     ensures { λ r. ⌜ outcome (machine (now (state .exit)) (now (memory .exit)) (now (journal .exit))) (r .value) (r .number)
-        ≡ ran (now (deck .entry)) (now (protect .entry)) limit (machine (now (state .entry)) (now (memory .entry)) (now (journal .entry))) ⌝ }
+        ≡ ran (now (deck .entry)) (bitwise (now (protect .entry))) limit (machine (now (state .entry)) (now (memory .entry)) (now (journal .entry))) ⌝ }
 {
     let ran = run_by_value(*state, deck, memory, protect, journal, limit);
     *state = ran.state;
@@ -74,7 +75,7 @@ pub extern "C" fn panel_back(
     journal: &mut [u32],
 ) -> u8
     ensures { λ r. ⌜ outcome (machine (now (state .exit)) (now (memory .exit)) (now (journal .exit))) 0 r
-        ≡ backed (now (protect .entry)) (machine (now (state .entry)) (now (memory .entry)) (now (journal .entry))) ⌝ }
+        ≡ backed (bitwise (now (protect .entry))) (machine (now (state .entry)) (now (memory .entry)) (now (journal .entry))) ⌝ }
 {
     let stepped = back_by_value(*state, memory, protect, journal);
     *state = stepped.state;
@@ -89,8 +90,8 @@ pub extern "C" fn panel_read(
     memory: &mut [u16],
     protect: &mut [u8],
 ) -> Answer
-    ensures { λ r. ⌜ reply (buffers (now (cells .exit)) (now (memory .exit)) (now (protect .exit))) (r .number) (r .value)
-        ≡ replied (readText (now (text .entry)) (buffers (now (cells .entry)) (now (memory .entry)) (now (protect .entry)))) ⌝ }
+    ensures { λ r. ⌜ reply (buffers (now (cells .exit)) (now (memory .exit)) (bitwise (now (protect .exit)))) (r .number) (r .value)
+        ≡ replied (readText (now (text .entry)) (buffers (now (cells .entry)) (now (memory .entry)) (bitwise (now (protect .entry))))) ⌝ }
 {
     let reading = decktext::read(text, cells, memory, protect);
     match reading {
@@ -119,7 +120,7 @@ pub extern "C" fn panel_why(
     journal: &[u32],
 ) -> Explanation
     ensures { λ r. ⌜ r
-        ≡ explanationOf (whyOf (now (deck .entry)) (now (protect .entry)) (machine (now (state .entry)) (now (memory .entry)) (now (journal .entry)))) ⌝ }
+        ≡ explanationOf (whyOf (now (deck .entry)) (bitwise (now (protect .entry))) (machine (now (state .entry)) (now (memory .entry)) (now (journal .entry)))) ⌝ }
 {
     why_by_value(*state, deck, memory, protect, journal)
 }

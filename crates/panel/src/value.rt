@@ -4,6 +4,7 @@ use cause::Cell;
 use cause::Named;
 use machine::State;
 ghost use mathlib.Core.Path.{_≡_};
+ghost use Rattle.protection.specs.Bits.{bitwise};
 ghost use Rattle.machine.specs.Machine.{machine};
 ghost use Rattle.machine.specs.Step.{single, stepped, outcome};
 ghost use Rattle.machine.specs.Run.{ran};
@@ -37,7 +38,7 @@ pub fn step_by_value(
     journal: &mut [u32],
 ) -> Stepped
     ensures { λ r. ⌜ single (machine (r .state) (now (memory .exit)) (now (journal .exit))) (r .number)
-        ≡ stepped (now (deck .entry)) (now (protect .entry)) (machine s (now (memory .entry)) (now (journal .entry))) ⌝ }
+        ≡ stepped (now (deck .entry)) (bitwise (now (protect .entry))) (machine s (now (memory .entry)) (now (journal .entry))) ⌝ }
 {
     let r = machine::step(s, deck, memory, protect, journal);
     let state = r.state;
@@ -57,7 +58,7 @@ pub fn run_by_value(
     limit: u32,
 ) -> Ran
     ensures { λ r. ⌜ outcome (machine (r .state) (now (memory .exit)) (now (journal .exit))) (r .answer .value) (r .answer .number)
-        ≡ ran (now (deck .entry)) (now (protect .entry)) limit (machine s (now (memory .entry)) (now (journal .entry))) ⌝ }
+        ≡ ran (now (deck .entry)) (bitwise (now (protect .entry))) limit (machine s (now (memory .entry)) (now (journal .entry))) ⌝ }
 {
     let r = machine::run(s, deck, memory, protect, journal, limit);
     let state = r.state;
@@ -71,7 +72,7 @@ pub fn run_by_value(
 
 pub fn back_by_value(s: State, memory: &mut [u16], protect: &[u8], journal: &mut [u32]) -> Stepped
     ensures { λ r. ⌜ outcome (machine (r .state) (now (memory .exit)) (now (journal .exit))) 0 (r .number)
-        ≡ backed (now (protect .entry)) (machine s (now (memory .entry)) (now (journal .entry))) ⌝ }
+        ≡ backed (bitwise (now (protect .entry))) (machine s (now (memory .entry)) (now (journal .entry))) ⌝ }
 {
     let r = machine::back(s, memory, protect, journal);
     let state = r.state;
@@ -147,7 +148,7 @@ pub fn why_by_value(
     protect: &[u8],
     journal: &[u32],
 ) -> Explanation
-    ensures { λ r. ⌜ r ≡ explanationOf (whyOf (now (deck .entry)) (now (protect .entry)) (machine s (now (memory .entry)) (now (journal .entry)))) ⌝ }
+    ensures { λ r. ⌜ r ≡ explanationOf (whyOf (now (deck .entry)) (bitwise (now (protect .entry))) (machine s (now (memory .entry)) (now (journal .entry)))) ⌝ }
 {
     explain(cause::why(s, deck, memory, protect, journal))
 }

@@ -12,6 +12,7 @@ use machine::Status;
 ghost use mathlib.Core.Path.{_≡_};
 ghost use Prim.Native.Nat.{_≤_};
 ghost use lib.ListN.{length};
+ghost use Rattle.protection.specs.Bits.{bitwise};
 ghost use Rattle.machine.specs.Machine.{machine};
 ghost use Rattle.machine.specs.Step.{outcome};
 ghost use Rattle.machine.specs.Stops.{numberOf};
@@ -39,7 +40,7 @@ pub fn call(
     journal: &mut [u32],
 ) -> Ran
     ensures { λ r. ⌜ outcome (machine (r .state) (now (memory .exit)) (now (journal .exit))) (r .count) (numberOf (r .stop))
-        ≡ called byte (now (deck .entry)) (now (protect .entry)) (machine s (now (memory .entry)) (now (journal .entry))) ⌝ }
+        ≡ called byte (now (deck .entry)) (bitwise (now (protect .entry))) (machine s (now (memory .entry)) (now (journal .entry))) ⌝ }
 {
     if byte == b's' {
         let r = machine::step(s, deck, memory, protect, journal);
@@ -111,7 +112,7 @@ pub fn list(
 ) -> Listed
     ensures { λ r. ⌜ (r .made ≤ length (now (calls .entry)))
         × (machine (r .state) (now (memory .exit)) (now (journal .exit))
-        ≡ afterCalls (now (calls .entry)) (now (deck .entry)) (now (protect .entry)) (r .made) (machine start (now (memory .entry)) (now (journal .entry)))) ⌝ }
+        ≡ afterCalls (now (calls .entry)) (now (deck .entry)) (bitwise (now (protect .entry))) (r .made) (machine start (now (memory .entry)) (now (journal .entry)))) ⌝ }
 {
     let mut state = start;
     let mut made = 0;

@@ -2,6 +2,7 @@
 -- Assumes nothing.
 use mathlib.Core.Path.{_≡_, sym, ap, _∙_}
 use borrow.Author.Needs.{needs}
+use Rattle.protection.specs.Bits.{bitwise}
 use Rattle.decktext.specs.declared.deck.Reading.{Reading}
 use Rattle.decktext.specs.Read.{buffers, outcome, saysReading, readText}
 use Rattle.panel.specs.Reply.{replied}
@@ -10,10 +11,10 @@ use Rattle.panel.proofs.panel_read.Tie as tie
 
 -- what the reader said, where its answer is known
 said : (c : tie.After-read) (r : Reading) → c .read .result ≡ r
-    → replied (outcome (buffers (c .read .last .1 .0) (c .read .last .1 .1 .0) (c .read .last .1 .1 .1 .0)) (saysReading r))
-    ≡ replied (readText (c .before .before .before .before .before .before .before .before .args .text .now) (buffers (c .before .before .before .before .before .before .before .before .args .cells .now) (c .before .before .before .before .before .before .before .before .args .memory .now) (c .before .before .before .before .before .before .before .before .args .protect .now)))
+    → replied (outcome (buffers (c .read .last .1 .0) (c .read .last .1 .1 .0) (bitwise (c .read .last .1 .1 .1 .0))) (saysReading r))
+    ≡ replied (readText (c .before .before .before .before .before .before .before .before .args .text .now) (buffers (c .before .before .before .before .before .before .before .before .args .cells .now) (c .before .before .before .before .before .before .before .before .args .memory .now) (bitwise (c .before .before .before .before .before .before .before .before .args .protect .now))))
 said c r e =
-    ap (λ (x : Reading). replied (outcome (buffers (c .read .last .1 .0) (c .read .last .1 .1 .0) (c .read .last .1 .1 .1 .0)) (saysReading x))) (sym e)
+    ap (λ (x : Reading). replied (outcome (buffers (c .read .last .1 .0) (c .read .last .1 .1 .0) (bitwise (c .read .last .1 .1 .1 .0))) (saysReading x))) (sym e)
     ∙ ap replied (c .read .ensures)
 
 read-requires : tie.Need-read-requires

@@ -36,6 +36,7 @@ use denote.Triple.Spec.{Meets, tripleOf}
 use denote.Triple.Table.{entered, cited}
 use denote.Triple.Walked.{says, Stays, stay-dropped, walkOf, AllGo, goes-dropped, Walks, ends-at, walked, walk-meets}
 use denote.Exit.{yes}
+use Rattle.protection.specs.Bits.{bitwise}
 use Rattle.machine.specs.declared.state.State.{State}
 use Rattle.machine.specs.Machine.{machine}
 use Rattle.machine.proofs.state.State as T
@@ -84,7 +85,7 @@ module _ {M : Type 1} (𝓤 : URA M) (H : Heap 𝓤) (A : Atoms 𝓤) (W : Given
   Post = walkOf 𝓤 H A f.ended stayed (f.clauses 𝓤 H A at-mem run) .post (((κ, κs), (q, qs), tt, a, vals), tt)
 
   abbrev Said : Explanation → Type 0
-  Said r = r ≡ explanationOf (whyOf (d .now) (p .now) (machine (x .now) (m .now) (j .now)))
+  Said r = r ≡ explanationOf (whyOf (d .now) (bitwise (p .now)) (machine (x .now) (m .now) (j .now)))
 
   -- of what `why_by_value` ensures, the clause alone: it has no `&mut`
   said : (r : Explanation) → ent 𝓤 (ensured 𝓤 H A why.ended (why.clauses 𝓤 H A at-mem run) κs (x .now, a .1) tt r) (fact 𝓤 (Said r))

@@ -3,6 +3,7 @@ use Prim.Native.Nat.{ℕ, _*_, _≤_}
 use native.Mathlib.Nat.{le-trans, le-of-eq}
 use lib.ListN.{length}
 use lib.Seq.{length-take-le}
+use Rattle.protection.specs.Bits.{bitwise}
 use Rattle.decktext.specs.declared.deck.Reading.{Reading}
 use Rattle.decktext.specs.Read.{Buffers, Outcome, buffers, outcome, Said, refused, saysReading, readText}
 use Rattle.decktext.proofs.Laws.{refused-said, taken-fits}
@@ -13,10 +14,10 @@ use Rattle.listing.proofs.listing.answer.Statement.{statement}
 use Rattle.listing.proofs.listing.answer.Tie as tie
 
 abbrev kept-of : tie.After-read → Buffers
-kept-of c = buffers (c .read .last .1 .0) (c .read .last .1 .1 .0) (c .read .last .1 .1 .1 .0)
+kept-of c = buffers (c .read .last .1 .0) (c .read .last .1 .1 .0) (bitwise (c .read .last .1 .1 .1 .0))
 
 -- what reading the text did to the blank buffers
-was-read : (c : tie.After-read) → outcome (buffers (c .read .last .1 .0) (c .read .last .1 .1 .0) (c .read .last .1 .1 .1 .0)) (saysReading (c .read .result))
+was-read : (c : tie.After-read) → outcome (kept-of c) (saysReading (c .read .result))
     ≡ readText (c .before .before .before .before .before .args .text .now) blank
 was-read c = c .read .ensures
 

@@ -4,6 +4,7 @@ use Prim.Native.Nat.{_≤_, _<_, _-_}
 use mathlib.Core.Path.{_≡_, refl}
 use native.Mathlib.Omega.{arith}
 use lib.ListN.{length}
+use Rattle.protection.specs.Bits.{bitwise}
 use Rattle.machine.specs.Machine.{machine}
 use Rattle.trial.specs.Call.{afterCalls}
 use Rattle.trial.proofs.Called.{one-more}
@@ -12,7 +13,7 @@ use Rattle.trial.proofs.calling.list.Statement.{statement}
 use Rattle.trial.proofs.calling.list.Tie as tie
 
 abbrev Inv-loop : tie.InvT-loop
-Inv-loop calls place deck memory₀ protect journal₀ state₀ made₀ written₀ memory journal state made written = (made ≤ length calls) × (machine state memory journal ≡ afterCalls calls deck protect made (machine state₀ memory₀ journal₀)) × (length memory ≡ length memory₀) × (length journal ≡ length journal₀)
+Inv-loop calls place deck memory₀ protect journal₀ state₀ made₀ written₀ memory journal state made written = (made ≤ length calls) × (machine state memory journal ≡ afterCalls calls deck (bitwise protect) made (machine state₀ memory₀ journal₀)) × (length memory ≡ length memory₀) × (length journal ≡ length journal₀)
 
 abbrev μ-loop : tie.MeasureT-loop
 μ-loop calls place deck memory₀ protect journal₀ state₀ made₀ written₀ memory journal state made written = length calls - made
