@@ -314,9 +314,14 @@ fn put(memory: &mut [u16], at: usize, w: u32) {
     memory[at + 1] = w as u16;
 }
 
+/// One bit a halfword, lowest bit first.
+fn protected(list: &[u8], a: usize) -> bool {
+    list[a / 8] & 1 << (a % 8) != 0
+}
+
 /// Checks 2 and 3.
 fn held(s: &State, memory: usize, protect: usize, journal: usize) -> Result<(), u8> {
-    if memory > 32_768 || journal > 16_384 || protect != memory {
+    if memory > 32_768 || journal > 16_384 || protect != memory.div_ceil(8) {
         return Err(2);
     }
     if s.code == 2 || s.code > 3 || s.mask > 1 || s.used as usize > journal / 4 {
@@ -467,7 +472,7 @@ fn decide(s: &State, b: &Buffers) -> Result<Effect, u8> {
     if span > 0 && at + span > b.memory.len() {
         return Err(6);
     }
-    if stores(cells[0]) && b.protect[at..at + span].iter().any(|x| *x != 0) {
+    if stores(cells[0]) && (at..at + span).any(|a| protected(&b.protect, a)) {
         return Err(7);
     }
     effect(s, cells, &b.memory)
@@ -509,7 +514,7 @@ pub fn why(s: &State, b: &Buffers) -> (u8, Vec<u32>) {
     let names = match number {
         5 => vec![broken_cell(cells)],
         6 => vec![addresses().find(|a| *a >= b.memory.len()).unwrap() as u32],
-        7 => vec![addresses().find(|a| b.protect[*a] != 0).unwrap() as u32],
+        7 => vec![addresses().find(|a| protected(&b.protect, *a)).unwrap() as u32],
         _ => operand_words(s, cells, &b.memory),
     };
     (number, names)
@@ -601,7 +606,7 @@ pub fn back(s: &mut State, b: &mut Buffers) -> u8 {
         Change::Four(..) => 4,
         _ => 0,
     };
-    if span > 0 && (r + span > b.memory.len() || b.protect[r..r + span].iter().any(|x| *x != 0)) {
+    if span > 0 && (r + span > b.memory.len() || (r..r + span).any(|a| protected(&b.protect, a))) {
         return 15;
     }
     let e = Effect {
@@ -750,7 +755,7 @@ pub fn read(text: &[u8], cells: &mut [u16], memory: &mut [u16], protect: &mut [u
                 if halfwords.last().is_some_and(|last| h.0 <= last.0) {
                     return Err((16, number));
                 }
-                if h.0 as usize >= memory.len().min(protect.len()) {
+                if h.0 as usize >= memory.len() || h.0 as usize / 8 >= protect.len() {
                     return Err((17, number));
                 }
                 halfwords.push(h);
@@ -763,7 +768,9 @@ pub fn read(text: &[u8], cells: &mut [u16], memory: &mut [u16], protect: &mut [u
     }
     for (at, p, w) in halfwords {
         memory[at as usize] = w;
-        protect[at as usize] = p;
+        let bit = 1 << (at % 8);
+        let byte = &mut protect[at as usize / 8];
+        *byte = if p == 1 { *byte | bit } else { *byte & !bit };
     }
     Ok(orders.len() as u32)
 }

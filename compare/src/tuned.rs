@@ -207,11 +207,18 @@ const LIMITS: [(u16, u16, u16, u8, u8); 35] = {
     t
 };
 
+/// The bits of up to eight halfwords are in two bytes.
+#[inline(always)]
+fn any_protected(list: &[u8], a: usize, span: usize) -> bool {
+    let two = u16::from_le_bytes([list[a / 8], list.get(a / 8 + 1).copied().unwrap_or(0)]);
+    two >> (a % 8) & ((1 << span) - 1) != 0
+}
+
 pub fn run(st: &mut State, b: &mut Buffers, limit: u32) -> (u32, u8) {
     if b.deck.len() % 4 != 0 || b.deck.len() > 16_384 {
         return (0, 1);
     }
-    if b.memory.len() > 32_768 || b.journal.len() > 16_384 || b.protect.len() != b.memory.len() {
+    if b.memory.len() > 32_768 || b.journal.len() > 16_384 || b.protect.len() != b.memory.len().div_ceil(8) {
         return (0, 2);
     }
     if st.code == 2 || st.code > 3 || st.mask > 1 || st.used as usize > b.journal.len() / 4 {
@@ -254,7 +261,7 @@ pub fn run(st: &mut State, b: &mut Buffers, limit: u32) -> (u32, u8) {
             stop = 6;
             break;
         }
-        if l.4 > 0 && protect[a..a + span].iter().any(|x| *x != 0) {
+        if l.4 > 0 && any_protected(protect, a, span) {
             stop = 7;
             break;
         }
@@ -645,7 +652,7 @@ pub fn read(text: &[u8], cells: &mut [u16], memory: &mut [u16], protect: &mut [u
         c.at += 1;
         line += 2;
         c.heading(b"at protect word\n").ok_or((16, line))?;
-        let room = memory.len().min(protect.len());
+        let room = memory.len().min(8 * protect.len());
         let mut least = 0;
         while c.at < text.len() {
             line += 1;
@@ -661,7 +668,8 @@ pub fn read(text: &[u8], cells: &mut [u16], memory: &mut [u16], protect: &mut [u
     cells[..n].copy_from_slice(&staged[..n]);
     for h in staged[n..end].chunks_exact(3) {
         memory[h[0] as usize] = h[2];
-        protect[h[0] as usize] = h[1] as u8;
+        let byte = &mut protect[h[0] as usize / 8];
+        *byte = *byte & !(1 << (h[0] % 8)) | (h[1] as u8) << (h[0] % 8);
     }
     Ok((n / 4) as u32)
 }

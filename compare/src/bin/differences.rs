@@ -57,13 +57,22 @@ fn wild(r: &mut Random, s: &mut State) {
     }
 }
 
+/// Some bits set; often those past the end of memory, too, which change no answer.
+fn protect_list(r: &mut Random, bytes: u64, memory: u64) -> Vec<u8> {
+    let mut list: Vec<u8> = (0..bytes).map(|_| (0..8).fold(0, |b, k| b | (r.chance(12) as u8) << k)).collect();
+    if memory % 8 > 0 && r.chance(2) {
+        list.iter_mut().rev().take(1).for_each(|last| *last |= !0 << (memory % 8));
+    }
+    list
+}
+
 fn buffers(r: &mut Random) -> Buffers {
     let orders = r.below(12) + 1;
     let large = r.chance(2000);
     let memory = if large { 32_760 + r.below(16) } else { r.below(40) };
     let mut deck: Vec<u16> = (0..orders).flat_map(|_| order(r, orders, memory)).collect();
     let mut journal = r.below(120);
-    let mut protect = memory;
+    let mut protect = memory.div_ceil(8);
     match r.below(200) {
         0 => deck.truncate(deck.len().saturating_sub(1)),
         1 => deck.push(7),
@@ -76,7 +85,7 @@ fn buffers(r: &mut Random) -> Buffers {
     Buffers {
         deck,
         memory: (0..memory).map(|_| if r.chance(3) { 0 } else { r.next() as u16 }).collect(),
-        protect: (0..protect).map(|_| if r.chance(12) { r.next() as u8 } else { 0 }).collect(),
+        protect: protect_list(r, protect, memory),
         journal: (0..journal).map(|_| if r.chance(3) { r.next() as u32 } else { 0 }).collect(),
     }
 }
@@ -214,10 +223,10 @@ fn reading(r: &mut Random) -> u64 {
     let t = text(r);
     let mut fill = |n: u64| (0..n).map(|_| r.next() as u16).collect::<Vec<u16>>();
     let (mut cells, mut memory) = (fill(40), fill(24));
-    let mut protect: Vec<u8> = fill(24).iter().map(|x| *x as u8).collect();
+    let mut protect: Vec<u8> = fill(3).iter().map(|x| *x as u8).collect();
     cells.truncate(if r.chance(4) { r.below(40) as usize } else { 40 });
     memory.truncate(if r.chance(4) { r.below(24) as usize } else { 24 });
-    protect.truncate(if r.chance(4) { r.below(24) as usize } else { 24 });
+    protect.truncate(if r.chance(4) { r.below(4) as usize } else { 3 });
     if r.chance(20) {
         cells.resize(17_000, 9);
     }

@@ -55,7 +55,7 @@ fn run(name: &'static str, orders: &[[u16; 4]], s: State, memory: Vec<u16>) -> R
     let mut s = s;
     s.general[7] = u32::MAX;
     let n = memory.len();
-    let b = Buffers { deck: looped(orders), memory, protect: vec![0; n], journal: vec![0; 16_384] };
+    let b = Buffers { deck: looped(orders), memory, protect: vec![0; n.div_ceil(8)], journal: vec![0; 16_384] };
     let (mut c, mut d) = (b.clone(), b.clone());
     let (mut memory, mut journal) = (b.memory.clone(), b.journal.clone());
     let answers = [
@@ -104,7 +104,7 @@ fn stepping(name: &'static str, orders: &[[u16; 4]], s: State, memory: Vec<u16>)
     let mut s = s;
     s.general[7] = u32::MAX;
     let n = memory.len();
-    let b = Buffers { deck: looped(orders), memory, protect: vec![0; n], journal: vec![0; 16_384] };
+    let b = Buffers { deck: looped(orders), memory, protect: vec![0; n.div_ceil(8)], journal: vec![0; 16_384] };
     let (mut c, mut d) = (b.clone(), b.clone());
     let (mut memory, mut journal) = (b.memory.clone(), b.journal.clone());
     measure(
@@ -183,7 +183,7 @@ fn text(r: &mut Random) -> Vec<u8> {
 fn reading(r: &mut Random) -> Row {
     type Lent = (Vec<u16>, Vec<u16>, Vec<u8>);
     let t = text(r);
-    let blank: Lent = (vec![0; 16_384], vec![0; 4_096], vec![0; 4_096]);
+    let blank: Lent = (vec![0; 16_384], vec![0; 4_096], vec![0; 512]);
     let (mut a, mut b, mut c) = (blank.clone(), blank.clone(), blank);
     let answers = [
         panel::read(&t, &mut a.0, &mut a.1, &mut a.2),
