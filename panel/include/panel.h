@@ -48,7 +48,7 @@ void panel_fresh(panel_state *state);
 /* Takes one step. Returns 0, or the number of the stop (1 to 13); a stop leaves everything as it was.
  * deck: four cells an order (code, r1, r2, at), deck_cells of them. protect: one bit a halfword of memory, set if the
  * halfword is protected: address a is bit a % 8 of byte a / 8, the lowest bit being bit 0. protect_bytes is
- * memory_halfwords / 8 rounded up, and nothing else (2); bits past memory's end are never looked at.
+ * memory_halfwords / 8 rounded up, and nothing else (2); bits past memory's end may be anything and change no answer.
  * journal: four words a record. */
 uint8_t panel_step(panel_state *state, const uint16_t *deck, size_t deck_cells, uint16_t *memory, size_t memory_halfwords,
                    const uint8_t *protect, size_t protect_bytes, uint32_t *journal, size_t journal_words);

@@ -6,12 +6,13 @@ use mathlib.Core.List.{List, [], _∷_}
 use native.Mathlib.Omega.{arith}
 use lib.Dec.{leb, ltb}
 use lib.ListN.{length, length-set}
-use borrow.Author.Tests.{eqb-true, eq-eqb, ltb-true, lt-ltb}
-use Rattle.hexfloat.specs.Answer.{Answer, gives, stops, provided, andThen}
-use Rattle.protection.specs.Form.{ProtectList, covers, holds, withMark}
+use borrow.Author.Tests.{ltb-true, lt-ltb}
+use Rattle.hexfloat.specs.Answer.{Answer, gives, stops, provided}
+use Rattle.protection.specs.Form.{ProtectList, holds, withMark}
 use Rattle.protection.specs.Bits.{bitForm}
 use Rattle.protection.specs.Bytes.{bytewise, unpacked}
-use Rattle.protection.proofs.Unpacked.{stands-for}
+use Rattle.hexfloat.proofs.Answers.{provided-same, then-same}
+use Rattle.protection.proofs.Unpacked.{unpacked-length}
 use Rattle.decktext.specs.Text.{Line, ended, unended, linesOf}
 use Rattle.decktext.specs.Format.{Halfword, halfwordOf}
 use Rattle.decktext.specs.Read.{Buffers, refused, outcome, Wanted, heading, order, storage, halfword, Progress, start, Given, headed, ordered, parted, stored, halfwordFits, lineAs, lineRead, bufferedWith, progressed, Read, whole, faulty, endRead, readOn, linesRead, concludedWith, readText}
@@ -42,26 +43,14 @@ module _ {memory : List ℕ} {x : ProtectList} (packed : Packed memory x) (a : �
   bits-hold = rw (packed .form) (lt-ltb (a / 8) (length (x .bytes)) (omega (arith, packed .cover)))
 
   bytes-hold : holds (bytewise (unpacked (length memory) (x .bytes))) a ≡ true
-  unfolding covers holds
-  bytes-hold =
-      let n = length memory in
-      let bytes = unpacked n (x .bytes) in
-      let size = eqb-true (length bytes) n (sym (stands-for n (x .bytes) (packed .cover) .length-alike) ∙ eq-eqb (length (x .bytes)) (bitForm .coverOf n) (packed .cover)) in
-      lt-ltb a (length bytes) (omega (arith, size))
-
-provided-alike : {A : Type 0} (ok : Bool) (n : ℕ) (x y : Answer A) → (ok ≡ true → x ≡ y) → provided ok n x ≡ provided ok n y
-provided-alike true n x y h = h refl
-provided-alike false n x y h = refl
-
-then-alike : {A B : Type 0} (a : Answer A) (f g : A → Answer B) → ((x : A) → f x ≡ g x) → andThen a f ≡ andThen a g
-then-alike (gives x) f g h = h x
-then-alike (stops n) f g h = refl
+  unfolding holds
+  bytes-hold = lt-ltb a (length (unpacked (length memory) (x .bytes))) (omega (arith, unpacked-length (x .bytes) (length memory)))
 
 module _ (p : Progress) (packed : Packed (p .held .memory) (p .held .protect)) where
   fits-alike : (h : Halfword) → halfwordFits (asBytes p) h ≡ halfwordFits p h
   fits-alike h =
       ap (provided (leb (p .least) (h .at)) 16)
-      (provided-alike (ltb (h .at) (length (p .held .memory))) 17 _ _ (λ t.
+      (provided-same (ltb (h .at) (length (p .held .memory))) 17 _ _ (λ t.
       let l = ltb-true (h .at) (length (p .held .memory)) t in
       ap (λ (ok : Bool). provided ok 17 (gives (stored h))) (bytes-hold packed (h .at) l ∙ sym (bits-hold packed (h .at) l))))
 
@@ -70,7 +59,7 @@ module _ (p : Progress) (packed : Packed (p .held .memory) (p .held .protect)) w
   line-alike heading line = refl
   line-alike order line = refl
   line-alike storage line = refl
-  line-alike halfword line = then-alike (halfwordOf line) (halfwordFits (asBytes p)) (halfwordFits p) fits-alike
+  line-alike halfword line = then-same (halfwordOf line) (halfwordFits (asBytes p)) (halfwordFits p) (λ h e. fits-alike h)
 
   -- what it gives is written alike
   progressed-alike : (g : Given) → Fits p g → progressed g (asBytes p) ≡ asBytes (progressed g p)

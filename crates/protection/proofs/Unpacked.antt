@@ -19,10 +19,10 @@ abbrev mark : List ℕ → ℕ → ℕ
 mark p a = cond (isProtected (bitwise p) a) 1 0
 
 module _ (p : List ℕ) where
-  size : (n : ℕ) → length (unpacked n p) ≡ n
+  pub unpacked-length : (n : ℕ) → length (unpacked n p) ≡ n
   unfolding unpacked
-  size zero = refl
-  size (suc n) = length-append (unpacked n p) (mark p n ∷ []) ∙ omega (arith, size n)
+  unpacked-length zero = refl
+  unpacked-length (suc n) = length-append (unpacked n p) (mark p n ∷ []) ∙ omega (arith, unpacked-length n)
 
   byte : (n a : ℕ) → a < n → getD (unpacked n p) a 0 ≡ mark p a
   unfolding unpacked
@@ -30,10 +30,10 @@ module _ (p : List ℕ) where
   byte (suc n) a h = cases (ltb a n) refl (byte n a)
     where
       cases : (t : Bool) → ltb a n ≡ t → (a < n → getD (unpacked n p) a 0 ≡ mark p a) → getD (unpacked n p ++ (mark p n ∷ [])) a 0 ≡ mark p a
-      cases true t rest = List·getD-append (unpacked n p) (mark p n ∷ []) 0 a (omega (arith, ltb-true a n t, size n)) ∙ rest (ltb-true a n t)
+      cases true t rest = List·getD-append (unpacked n p) (mark p n ∷ []) 0 a (omega (arith, ltb-true a n t, unpacked-length n)) ∙ rest (ltb-true a n t)
       cases false t rest =
           let last : a ≡ n = omega (arith, ltb-false a n t) in
-          rw last (getD-at (unpacked n p) (mark p n) [] 0 n (size n))
+          rw last (getD-at (unpacked n p) (mark p n) [] 0 n (unpacked-length n))
 
 -- a byte is not 0 exactly if it was made for a protected halfword
 not-zero : (t : Bool) → t ≡ not (eqb (cond t 1 0) 0)
@@ -43,7 +43,7 @@ not-zero false = refl
 pub stands-for : (n : ℕ) (p : List ℕ) → length p ≡ bitForm .coverOf n → Alike n (bitwise p) (bytewise (unpacked n p))
 unfolding covers isProtected
 stands-for n p h = record {
-  length-alike = eq-eqb (length p) (bitForm .coverOf n) h ∙ sym (eq-eqb (length (unpacked n p)) n (size p n));
+  length-alike = eq-eqb (length p) (bitForm .coverOf n) h ∙ sym (eq-eqb (length (unpacked n p)) n (unpacked-length p n));
   bits-alike = λ t a l. not-zero (isProtected (bitwise p) a) ∙ ap (λ (b : ℕ). not (eqb b 0)) (sym (byte p n a l));
 }
 
@@ -70,7 +70,7 @@ module _ (n : ℕ) (p : List ℕ) (a v : ℕ) (cover : length p ≡ bitForm .cov
       cases : (t : Bool) → eqb i a ≡ t → mark after i ≡ getD (set (unpacked n p) a v) i 0
       cases true t =
           let e = eqb-true i a t in
-          rw e (ap (λ (b : Bool). cond b 1 0) (marked-list p a v digit .here held) ∙ digit-mark v digit ∙ sym (getD-set-same (unpacked n p) a v 0 (omega (arith, size p n))))
+          rw e (ap (λ (b : Bool). cond b 1 0) (marked-list p a v digit .here held) ∙ digit-mark v digit ∙ sym (getD-set-same (unpacked n p) a v 0 (omega (arith, unpacked-length p n))))
       cases false t =
           let e = eqb-false i a t in
           ap (λ (b : Bool). cond b 1 0) (marked-list p a v digit .others i e) ∙ sym (byte p n i l) ∙ sym (getD-set-other (unpacked n p) a i v 0 e)
@@ -79,4 +79,4 @@ module _ (n : ℕ) (p : List ℕ) (a v : ℕ) (cover : length p ≡ bitForm .cov
   unfolding withMark
   mark-unpacked =
       ap bytewise
-      (ext-getD 0 (unpacked n after) (set (unpacked n p) a v) (size after n ∙ sym (length-set (unpacked n p) a v ∙ size p n)) (λ i l. each i (omega (arith, l, size after n))))
+      (ext-getD 0 (unpacked n after) (set (unpacked n p) a v) (unpacked-length after n ∙ sym (length-set (unpacked n p) a v ∙ unpacked-length p n)) (λ i l. each i (omega (arith, l, unpacked-length after n))))
