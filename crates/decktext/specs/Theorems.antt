@@ -75,7 +75,7 @@ upToEmpty (ended (b ∷ l) ∷ ls) = ended (b ∷ l) ∷ upToEmpty ls
 abbrev pub orderLines : List ℕ → List Line
 orderLines t = upToEmpty (afterFirst (linesOf t))
 
--- a packed protect list that memory wants, and the buffers with the list that it stands for
+-- buffers with a packed protect list, and the same buffers with the list that it stands for
 abbrev pub packedWith : List ℕ → List ℕ → List ℕ → Buffers
 packedWith c m p = buffers c m (bitwise p)
 

@@ -4,7 +4,7 @@ use mathlib.Core.Path.{_≡_, refl, sym, ap, _∙_}
 use mathlib.Core.Bool.{Bool, true, false}
 use lib.Dec.{eqb, ltb}
 use borrow.Author.Tests.{ltb-true, ltb-false}
-use native.Mathlib.Nat.{zero-div, mod-lt, mod-eq-of-lt, lt-of-lt-of-le, lt-of-le-of-lt, le-of-eq}
+use native.Mathlib.Nat.{zero-div, le-add-right, mod-lt, mod-eq-of-lt, lt-of-lt-of-le, lt-of-le-of-lt, le-of-eq}
 use native.Mathlib.Omega.{arith}
 use lib.Arith.{digits-lt}
 use lib.Pow.{pow-pos, pow-add, shr-shr, shr-lt, shr-le, split, high, low, field, mod-mod-pow}
@@ -73,21 +73,19 @@ bit-other j k v b digit differs = cases (ltb j k) refl
 abbrev pub rejoinedFrom : ℕ → ℕ → ℕ → ℕ
 rejoinedFrom k v b = (b / 2 ^ k / 2 * 2 + v) * 2 ^ k % 2 ^ 32 + (b - b / 2 ^ k * 2 ^ k % 2 ^ 32)
 
-module _ (k v b : ℕ) (place : k < 8) (digit : v < 2) (byte : b < 256) where
+module _ (k b : ℕ) (byte : b < 256) where
   pub high-byte : b / 2 ^ k ≤ 255
   high-byte = omega (arith, shr-le b k)
 
   pub high-back : b / 2 ^ k * 2 ^ k % 2 ^ 32 ≡ b / 2 ^ k * 2 ^ k
   high-back = mod-eq-of-lt (lt-of-le-of-lt (omega (arith, split b k)) (lt-of-lt-of-le byte (omega arith)))
 
-  pub rejoined : rejoinedFrom k v b ≡ withBit k v b
+  pub rejoined : (v : ℕ) → v < 2 → k < 8 → rejoinedFrom k v b ≡ withBit k v b
   unfolding withBit
-  rejoined =
-      let whole : (b / 2 ^ (k + 1) * 2 + v) * 2 ^ k < 2 ^ 32 = lt-of-le-of-lt (omega (arith, low-part)) (lt-of-lt-of-le (bit-byte k v b digit place byte) (omega arith)) in
+  rejoined v digit place =
+      let top = b / 2 ^ (k + 1) * 2 + v in
+      let whole : top * 2 ^ k < 2 ^ 32 = lt-of-le-of-lt (le-add-right (top * 2 ^ k) (b % 2 ^ k)) (lt-of-lt-of-le (bit-byte k v b digit place byte) (omega arith)) in
       rw (high-back, shr-shr b k 1, mod-eq-of-lt whole) (omega (arith, split b k))
-    where
-      low-part : (b / 2 ^ (k + 1) * 2 + v) * 2 ^ k ≤ (b / 2 ^ (k + 1) * 2 + v) * 2 ^ k + b % 2 ^ k
-      low-part = omega arith
 
 -- no bit of 0 is set
 pub no-bits : (a : ℕ) → eqb (bitOf (a % 8) 0) 1 ≡ false

@@ -26,7 +26,7 @@ byte : (c : tie.Start) → c .args .b < 256
 byte c = search needs
 
 value : (c : tie.Start) → rejoinedFrom (c .args .k) (cond (c .args .v) 1 0) (c .args .b) ≡ withBit (c .args .k) (cond (c .args .v) 1 0) (c .args .b)
-value c = rejoined (c .args .k) (cond (c .args .v) 1 0) (c .args .b) (c .pre) (digit (c .args .v)) (byte c)
+value c = rejoined (c .args .k) (c .args .b) (byte c) (cond (c .args .v) 1 0) (digit (c .args .v)) (c .pre)
 
 small : (c : tie.Start) → withBit (c .args .k) (cond (c .args .v) 1 0) (c .args .b) < 256
 small c = bit-byte (c .args .k) (cond (c .args .v) 1 0) (c .args .b) (digit (c .args .v)) (c .pre) (byte c)
@@ -38,16 +38,16 @@ shl-low : tie.Need-shl-low
 shl-low c = search needs
 
 sub-low : tie.Need-sub-low
-sub-low c = omega (arith, high-back (c .args .k) 0 (c .args .b) (c .pre) (omega arith) (byte c), split (c .args .b) (c .args .k))
+sub-low c = omega (arith, high-back (c .args .k) (c .args .b) (byte c), split (c .args .b) (c .args .k))
 
 mul-result : tie.Need-mul-result
-mul-result c = record { fits = omega (arith, high-byte (c .args .k) 0 (c .args .b) (c .pre) (omega arith) (byte c)) }
+mul-result c = record { fits = omega (arith, high-byte (c .args .k) (c .args .b) (byte c)) }
 
 cast-result : tie.Need-cast-result
 cast-result c = search needs
 
 add-result : tie.Need-add-result
-add-result c = rw (as-number (c .args .v)) (record { fits = omega (arith, high-byte (c .args .k) 0 (c .args .b) (c .pre) (omega arith) (byte c), digit (c .args .v)) })
+add-result c = rw (as-number (c .args .v)) (record { fits = omega (arith, high-byte (c .args .k) (c .args .b) (byte c), digit (c .args .v)) })
 
 shl-result : tie.Need-shl-result
 shl-result c = search needs
