@@ -5,14 +5,9 @@ use mathlib.Core.Bool.{Bool, true, false, cond, _||_}
 use lib.Dec.{leb, ltb}
 use native.Mathlib.Omega.{arith}
 use borrow.Author.Tests.{leb-true, leb-false, le-leb, lt-leb, lt-ltb, le-ltb}
-use Rattle.hexfloat.specs.Answer.{Answer, gives, stops}
-use Rattle.orders.specs.declared.order.Operation.{Operation}
-use Rattle.orders.specs.declared.order.Order.{Order}
-use Rattle.orders.specs.Order.{legalOf}
 use Rattle.protection.specs.Form.{ProtectList, isProtected}
 use Rattle.machine.specs.Check.{anyProtected}
-use Rattle.machine.proofs.Rows.{legal-passed}
-use Rattle.cause.specs.Storage.{lowest, IsLowest, isAbsent, spanIn, storedIn}
+use Rattle.cause.specs.Storage.{lowest, IsLowest, isAbsent}
 
 module _ (refuses : ℕ → Bool) where
   -- the address itself, or the rest without it
@@ -98,11 +93,3 @@ module _ (memory : ℕ) where
       cases : (t : Bool) → leb memory a ≡ t → lowest (isAbsent memory) a n < a + n
       cases true e = omega (arith, absent-here a n (leb-true memory a e))
       cases false e = omega (arith, absent-end a n (omega (arith, leb-false memory a e)) h)
-
--- S has at most four halfwords, of which some are stored to
-few : (o : Order) (r : Answer Operation) → legalOf o ≡ r → (spanIn r ≤ 4) × (storedIn r ≤ 4)
-few o (stops k) e = (omega arith, omega arith)
-few o (gives op) e = let w = legal-passed o op e in (w .span, omega (arith, w .stored, w .span))
-
-pub at-most-four : (o : Order) → (spanIn (legalOf o) ≤ 4) × (storedIn (legalOf o) ≤ 4)
-at-most-four o = few o (legalOf o) refl
