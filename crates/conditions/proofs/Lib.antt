@@ -11,6 +11,8 @@ pub mod Records
 pub mod Repeats
 pub mod Restore
 pub mod Return
+pub mod Same
 pub mod Theorems
 pub mod Trail
+pub mod Unindexed
 pub mod Writes

@@ -8,6 +8,7 @@ use Rattle.conditions.proofs.Protected.{protected-keeps}
 use Rattle.conditions.proofs.Records.{read-by-form}
 use Rattle.conditions.proofs.Return.{back-and-forth, refused-at-start}
 use Rattle.conditions.proofs.Trail.{as-trail, included}
+use Rattle.conditions.proofs.Unindexed.{unindexed}
 use Rattle.conditions.proofs.Writes.{one-record}
 
 pub theorems : Theorems
@@ -24,4 +25,5 @@ theorems = record {
   one-record = one-record;
   same-over = same-over;
   as-before = as-before;
+  unindexed = λ d p x none. unindexed d p none x;
 }

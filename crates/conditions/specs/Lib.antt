@@ -1,2 +1,3 @@
 pub mod Trail
+pub mod Unindexed
 pub mod Theorems

@@ -17,7 +17,9 @@ use Rattle.machine.specs.Journal.{recordAt, encoded, decoded, Recordable}
 use Rattle.machine.specs.Machine.{Machine, machine, beforeOf, committed}
 use Rattle.machine.specs.Run.{ran}
 use Rattle.machine.specs.Step.{Outcome, outcome, verdictOf, stepped}
+use Rattle.machine.specs.Unindexed.{NoIndexIn}
 use Rattle.conditions.specs.Trail.{Call, step, back, Entry, entry, Trail, trail, Reply, traced, called, standing, replies, stepsSaid, backsSaid, countSaid, Behind, AllCovered}
+use Rattle.conditions.specs.Unindexed.{unindexedCalled}
 
 -- what memory's type says: a halfword has 16 bits
 pub record Typed (memory : List ℕ) : Type 0 where
@@ -129,12 +131,15 @@ pub record OneRecord (p : ProtectList) (x : Machine) (e : Effect) : Type 0 where
   pub above : (i : ℕ) → x .state .used * 4 + 4 ≤ i → getD (committed e x .journal) i 0 ≡ getD (x .journal) i 0
   pub back : backed p (committed e x) ≡ outcome (machine (x .state) (x .memory) (committed e x .journal)) 0 0
 
--- The protect list enters by what it says of memory's halfwords and by nothing else: over two lists that say the same of them, every call has the same
--- answer and leaves the same state, memory and journal, and so has every list of calls.
-pub record SameOver (d : List ℕ) (p q : ProtectList) (x : Machine) : Type 0 where
-  pub call : (c : Call) → called d p c x ≡ called d q c x
-  pub answers : (cs : List Call) → replies (called d p) cs x ≡ replies (called d q) cs x
-  pub after : (cs : List Call) → machineAfter d p cs x ≡ machineAfter d q cs x
+-- Two machines do the same from x on: every call has the same answer and leaves the same state, memory and journal, and so has every list of calls.
+pub record SameCalls (f g : Call → Machine → Outcome Machine) (x : Machine) : Type 0 where
+  pub call : (c : Call) → f c x ≡ g c x
+  pub answers : (cs : List Call) → replies f cs x ≡ replies g cs x
+  pub after : (cs : List Call) → standing f cs x ≡ standing g cs x
+
+-- over two protect lists
+abbrev pub SameOver : List ℕ → ProtectList → ProtectList → Machine → Type 0
+SameOver d p q x = SameCalls (called d p) (called d q) x
 
 -- Packed protect lists (document 02, Job 6): a list of the length that memory wants gives what the form before gave over the list that it stands for; one of
 -- another length is refused as one of another length was; and the bits past the end of memory change nothing.
@@ -163,5 +168,8 @@ pub record Theorems : Type 0 where
   pub read-by-form : (q : Record) (e : Effect) → ReadByForm q e
   pub zero-is-taken : (d : List ℕ) (p : ProtectList) (x : Machine) → ZeroIsTaken d p x
   pub one-record : (d : List ℕ) (p : ProtectList) (x : Machine) (e : Effect) → Typed (x .memory) → verdictOf d p x ≡ gives e → OneRecord p x e
+  -- the protect list enters by what it says of memory's halfwords and by nothing else
   pub same-over : (d : List ℕ) (p q : ProtectList) (x : Machine) → Alike (length (x .memory)) p q → SameOver d p q x
   pub as-before : (d p : List ℕ) (x : Machine) → AsBefore d p x
+  -- Indexed storage orders (document 02, Job 7): over a deck in which r2 is 0 in every order with a storage operand all is as it was before
+  pub unindexed : (d : List ℕ) (p : ProtectList) (x : Machine) → NoIndexIn d → SameCalls (called d p) (unindexedCalled d p) x

@@ -83,11 +83,10 @@ module _ (p q : ProtectList) (memory : ℕ) (same : Alike memory p q) where
 
 module _ (d : List ℕ) (p q : ProtectList) (g : Registers) (used : ℕ) (m : List ℕ) (journal : ℕ) (same : Alike (length m) p q) where
   -- checks 6 and 7 of a legal order, and its effect
-  accessed-alike : covers p (length m) ≡ true → (o : Order) (op : Operation) → legalOf o ≡ gives op → accessed o g p m op ≡ accessed o g q m op
-  accessed-alike cover o op legal =
-      let a = addressOf o (g .general) in
+  accessed-alike : covers p (length m) ≡ true → (o : Order) (a : ℕ) (op : Operation) → legalOf o ≡ gives op → accessed o g p m a op ≡ accessed o g q m a op
+  accessed-alike cover o a op legal =
       provided-same (present (spanOf op) a (length m)) 6 _ _
-      (λ there. ap (λ (b : Bool). provided (not b) 7 (effectOf op o g m))
+      (λ there. ap (λ (b : Bool). provided (not b) 7 (effectOf op o g m a))
       (any-alike p q (length m) same cover (storedOf op) a (present-fewer (storedOf op) (spanOf op) a (length m) (legal-passed o op legal .stored) there)))
 
   -- a step's checks and its effect
@@ -103,6 +102,9 @@ module _ (d : List ℕ) (p q : ProtectList) (g : Registers) (used : ℕ) (m : Li
       o : Order
       o = orderAt d (g .status .pointer)
 
+      a : ℕ
+      a = addressOf o (g .general)
+
       further : ProtectList → Answer Effect
       further l = provided (ltb (g .status .pointer) (length d / 4)) 4 (judgedAt o g used l m journal)
 
@@ -110,5 +112,5 @@ module _ (d : List ℕ) (p q : ProtectList) (g : Registers) (used : ℕ) (m : Li
       passed z =
           let cover = held p (g .status) used (length m) journal (entered p (g .status) used (length m) journal (length d) z .1) .cover in
           ap (provided (ltb (g .status .pointer) (length d / 4)) 4)
-          (then-same (legalOf o) (judged o g used p m journal) (judged o g used q m journal)
-          (λ op legal. ap (λ (x : Answer Effect). provided (not (isHalt (op .verb))) 12 (provided (ltb used (journal / 4)) 13 x)) (accessed-alike cover o op legal)))
+          (then-same (legalOf o) (judged o g used p m a journal) (judged o g used q m a journal)
+          (λ op legal. ap (λ (x : Answer Effect). provided (not (isHalt (op .verb))) 12 (provided (ltb used (journal / 4)) 13 x)) (accessed-alike cover o a op legal)))

@@ -35,17 +35,16 @@ pub record Taken (d : List ℕ) (p : ProtectList) (g : Registers) (used : ℕ) (
 module _ (d : List ℕ) (p : ProtectList) (g : Registers) (used : ℕ) (m : List ℕ) (journal : ℕ) (e : Effect) where
   -- the same of an order whose operation is known
   judged-fine :
-      (op : Operation) (o : Order) → Passed op o → Held p (g .status) used (length m) journal →
-      judged o g used p m journal op ≡ gives e → (used < journal / 4) × Fine p (length m) e
+      (a : ℕ) (op : Operation) (o : Order) → Passed op o → Held p (g .status) used (length m) journal →
+      judged o g used p m a journal op ≡ gives e → (used < journal / 4) × Fine p (length m) e
   unfolding judged effectOf
-  judged-fine op o w hd h =
-      let a = addressOf o (g .general) in
+  judged-fine a op o w hd h =
       let k12 = provided-gives (not (isHalt (op .verb))) 12 _ h in
       let k13 = provided-gives (ltb used (journal / 4)) 13 _ (k12 .1) in
       let k6 = provided-gives (present (spanOf op) a (length m)) 6 _ (k13 .1) in
       let k7 = provided-gives (not (anyProtected p a (storedOf op))) 7 _ (k6 .1) in (
         ltb-true used (journal / 4) (k13 .0),
-        effect-fine p (length m) a (op .r2) (op .verb) (op .width) o g (secondOperand (op .place) (op .width) o (g .float) (g .general) m) e
+        effect-fine p (length m) a (op .r2) (op .verb) (op .width) o g (secondOperand (op .place) (op .width) o (g .float) (g .general) m a) e
             (record {
               first = w .first;
               second = w .r2;
@@ -67,8 +66,9 @@ module _ (d : List ℕ) (p : ProtectList) (g : Registers) (used : ℕ) (m : List
       let q = entered p (g .status) used (length m) journal (length d) (k3 .0) in
       let o = orderAt d at in
       let below : at < length d / 4 = ltb-true at (length d / 4) (k4 .0) in
-      let t = then-gives (legalOf o) (judged o g used p m journal) (k4 .1) in
-      let r = judged-fine (t .0) o (legal-passed o (t .0) (t .1)) (held p (g .status) used (length m) journal (q .1)) (t .2) in
+      let a = addressOf o (g .general) in
+      let t = then-gives (legalOf o) (judged o g used p m a journal) (k4 .1) in
+      let r = judged-fine a (t .0) o (legal-passed o (t .0) (t .1)) (held p (g .status) used (length m) journal (q .1)) (t .2) in
       record { entry = k3 .0; pointer = omega (arith, q .0 .size); room = r .0; fine = r .1 }
 
   -- what the code that writes a step asks

@@ -1,3 +1,4 @@
+pub mod Addresses
 pub mod Alike
 pub mod Arithmetic
 pub mod Checks
@@ -9,3 +10,4 @@ pub mod Refusals
 pub mod Returning
 pub mod Rows
 pub mod Runs
+pub mod Unindexed

@@ -54,9 +54,9 @@ module _ (P : ℕ → Type 0) (within : (n : ℕ) → 8 ≤ n → n ≤ 11 → P
       result-by 9 (omega arith) (resultInto false (productWidth w (o .r1)) (g .status) (o .r1))
       (stops-numbered .product w (productWidth w (o .r1)) (eqb (g .status .mask) 1) (floatOperand w (g .float) (o .r1)) b)
 
-  pub effect-by : (op : Operation) (o : Order) (g : Registers) (m : List ℕ) → (isHalt (op .verb) ≡ true → P 12) → StopsBy P (effectOf op o g m)
+  pub effect-by : (op : Operation) (o : Order) (g : Registers) (m : List ℕ) (a : ℕ) → (isHalt (op .verb) ≡ true → P 12) → StopsBy P (effectOf op o g m a)
   unfolding effectOf
-  effect-by op o g m h = performed-by (op .verb) (op .width) o g (addressOf o (g .general)) (secondOperand (op .place) (op .width) o (g .float) (g .general) m) h
+  effect-by op o g m a h = performed-by (op .verb) (op .width) o g a (secondOperand (op .place) (op .width) o (g .float) (g .general) m a) h
 
 -- check 5 answers 5
 module _ (P : ℕ → Type 0) (five : P 5) where
@@ -79,20 +79,21 @@ module _ (k : ℕ) (some : 1 ≤ k) (most : k ≤ 13) where
   number : StepNumber k
   number = record { some = some; most = most }
 
-judged-by : (o : Order) (g : Registers) (used : ℕ) (p : ProtectList) (m : List ℕ) (journal : ℕ) (op : Operation) → StopsBy StepNumber (judged o g used p m journal op)
+judged-by : (o : Order) (g : Registers) (used : ℕ) (p : ProtectList) (m : List ℕ) (a journal : ℕ) (op : Operation) → StopsBy StepNumber (judged o g used p m a journal op)
 unfolding judged
-judged-by o g used p m journal op =
+judged-by o g used p m a journal op =
     provided-by StepNumber (not (isHalt (op .verb))) 12 _ (number 12 (omega arith) (omega arith))
     (provided-by StepNumber (ltb used (journal / 4)) 13 _ (number 13 (omega arith) (omega arith))
-    (provided-by StepNumber (present (spanOf op) (addressOf o (g .general)) (length m)) 6 _ (number 6 (omega arith) (omega arith))
-    (provided-by StepNumber (not (anyProtected p (addressOf o (g .general)) (storedOf op))) 7 _ (number 7 (omega arith) (omega arith))
-    (effect-by StepNumber (λ n l u. number n (omega arith) (omega arith)) op o g m (λ z. number 12 (omega arith) (omega arith))))))
+    (provided-by StepNumber (present (spanOf op) a (length m)) 6 _ (number 6 (omega arith) (omega arith))
+    (provided-by StepNumber (not (anyProtected p a (storedOf op))) 7 _ (number 7 (omega arith) (omega arith))
+    (effect-by StepNumber (λ n l u. number n (omega arith) (omega arith)) op o g m a (λ z. number 12 (omega arith) (omega arith))))))
 
 pub decided-by : (d : List ℕ) (p : ProtectList) (g : Registers) (used : ℕ) (m : List ℕ) (journal : ℕ) → StopsBy StepNumber (decided d p g used m journal)
 unfolding decided
 decided-by d p g used m journal =
     let o = orderAt d (g .status .pointer) in
+    let a = addressOf o (g .general) in
     let k = entryStop (length d) p (g .status) used (length m) journal in
     checked-by StepNumber k _ (λ z. record { some = omega arith; most = omega (arith, entry-number p (g .status) used (length m) journal (length d)) })
     (provided-by StepNumber (ltb (g .status .pointer) (length d / 4)) 4 _ (number 4 (omega arith) (omega arith))
-    (then-by StepNumber (legalOf o) (judged o g used p m journal) (legal-by StepNumber (number 5 (omega arith) (omega arith)) o) (judged-by o g used p m journal)))
+    (then-by StepNumber (legalOf o) (judged o g used p m a journal) (legal-by StepNumber (number 5 (omega arith) (omega arith)) o) (judged-by o g used p m a journal)))

@@ -6,12 +6,13 @@ use mathlib.Core.List.{List, [], _∷_}
 use lib.Dec.{eqb, leb}
 use native.Mathlib.Omega.{arith}
 use borrow.Author.Tests.{leb-true}
-use Rattle.hexfloat.specs.Answer.{gives, provided}
+use Rattle.hexfloat.specs.Answer.{gives}
 use Rattle.orders.specs.declared.order.Operation.{Operation}
 use Rattle.orders.specs.declared.order.Order.{Order}
 use Rattle.orders.specs.declared.order.Verb.{Verb}
 use Rattle.orders.specs.Order.{rows, rowAmong, operationOf, withinLimits, legalOf, spanOf, storedOf}
-use Rattle.hexfloat.proofs.Answers.{gives-inj, never, provided-gives, then-gives}
+use Rattle.hexfloat.proofs.Answers.{gives-inj, never}
+use Rattle.orders.proofs.Passing.{legal-row}
 use Rattle.machine.proofs.Checks.{both}
 
 -- UM alone writes r2 into the mask
@@ -90,9 +91,7 @@ passed op o f w =
     }
 
 pub legal-passed : (o : Order) (op : Operation) → legalOf o ≡ gives op → Passed op o
-unfolding legalOf operationOf
+unfolding operationOf
 legal-passed o op h =
-    let t = then-gives (operationOf (o .code)) (λ x. provided (withinLimits x o) 5 (gives x)) h in
-    let q = provided-gives (withinLimits (t .0) o) 5 (gives (t .0)) (t .2) in
-    let same : t .0 ≡ op = gives-inj (q .1) in
-    subst (λ (x : Operation). Passed x o) same (passed (t .0) o (among-fits rows 1 (o .code) (t .0) rows-fit (t .1)) (q .0))
+    let q = legal-row o op h in
+    passed op o (among-fits rows 1 (o .code) op rows-fit (q .0)) (q .1)

@@ -24,26 +24,30 @@ heldStop p s used memory journal = cond (buffersSized p memory journal) (cond (s
 unfoldable pub entryStop : ℕ → ProtectList → Status → ℕ → ℕ → ℕ → ℕ
 entryStop deck p s used memory journal = cond (deckSized deck) (heldStop p s used memory journal) 1
 
--- checks 6 and 7 of a legal order, then its effect
-abbrev pub accessed : Order → Registers → ProtectList → List ℕ → Operation → Answer Effect
-accessed o g p m op =
-    provided (present (spanOf op) (addressOf o (g .general)) (length m)) 6
-    (provided (not (anyProtected p (addressOf o (g .general)) (storedOf op))) 7
-    (effectOf op o g m))
+-- checks 6 and 7 of a legal order whose S, if it has one, is at a, then its effect
+abbrev pub accessed : Order → Registers → ProtectList → List ℕ → ℕ → Operation → Answer Effect
+accessed o g p m a op =
+    provided (present (spanOf op) a (length m)) 6
+    (provided (not (anyProtected p a (storedOf op))) 7
+    (effectOf op o g m a))
 
 -- checks 12 and 13 before them
-unfoldable pub judged : Order → Registers → ℕ → ProtectList → List ℕ → ℕ → Operation → Answer Effect
-judged o g used p m journal op = provided (not (isHalt (op .verb))) 12 (provided (ltb used (journal / 4)) 13 (accessed o g p m op))
+unfoldable pub judged : Order → Registers → ℕ → ProtectList → List ℕ → ℕ → ℕ → Operation → Answer Effect
+judged o g used p m a journal op = provided (not (isHalt (op .verb))) 12 (provided (ltb used (journal / 4)) 13 (accessed o g p m a op))
 
+-- check 5 before them, and the address of S by the registers
 abbrev pub judgedAt : Order → Registers → ℕ → ProtectList → List ℕ → ℕ → Answer Effect
-judgedAt o g used p m journal = andThen (legalOf o) (judged o g used p m journal)
+judgedAt o g used p m journal = andThen (legalOf o) (judged o g used p m (addressOf o (g .general)) journal)
 
--- the journal enters by its length alone
-unfoldable pub decided : List ℕ → ProtectList → Registers → ℕ → List ℕ → ℕ → Answer Effect
-decided d p g used m journal =
+-- checks 1 to 4, then what is decided of the order at the pointer; the journal enters by its length alone
+abbrev pub reached : List ℕ → ProtectList → Registers → ℕ → List ℕ → ℕ → (Order → Answer Effect) → Answer Effect
+reached d p g used m journal rest =
     checked (entryStop (length d) p (g .status) used (length m) journal)
     (provided (ltb (g .status .pointer) (length d / 4)) 4
-    (judgedAt (orderAt d (g .status .pointer)) g used p m journal))
+    (rest (orderAt d (g .status .pointer))))
+
+unfoldable pub decided : List ℕ → ProtectList → Registers → ℕ → List ℕ → ℕ → Answer Effect
+decided d p g used m journal = reached d p g used m journal (λ o. judgedAt o g used p m journal)
 
 -- what checks 1 to 5 leave known of a legal order
 pub record Judgeable (op : Operation) (o : Order) (g : Registers) : Type 0 where

@@ -23,7 +23,6 @@ use Rattle.orders.specs.declared.order.Verb.{Verb}
 use Rattle.machine.specs.declared.state.Registers.{Registers}
 use Rattle.machine.specs.declared.state.Status.{Status}
 use Rattle.machine.specs.declared.verdict.Effect.{Effect}
-use Rattle.machine.specs.Address.{addressOf}
 use Rattle.machine.specs.Change.{floatChange, storageChange}
 use Rattle.machine.specs.Check.{present}
 use Rattle.machine.specs.Jump.{jumped, countedDown}
@@ -110,12 +109,13 @@ performed Verb.Halt w o g a b = stops 12
 performed (Verb.Sum sense) w o g a b = summedInto sense w (g .status) (o .r1) (floatOperand w (g .float) (o .r1)) b
 performed Verb.Multiply w o g a b = multiplied w (g .status) (o .r1) (floatOperand w (g .float) (o .r1)) b
 
-unfoldable pub effectOf : Operation → Order → Registers → List ℕ → Answer Effect
-effectOf op o g m = performed (op .verb) (op .width) o g (addressOf o (g .general)) (secondOperand (op .place) (op .width) o (g .float) (g .general) m)
+-- a legal order whose S, if it has one, is at a
+unfoldable pub effectOf : Operation → Order → Registers → List ℕ → ℕ → Answer Effect
+effectOf op o g m a = performed (op .verb) (op .width) o g a (secondOperand (op .place) (op .width) o (g .float) (g .general) m a)
 
 -- what checks 4, 5 and 6 leave known where the effect is worked out
-pub record Ready (op : Operation) (o : Order) (g : Registers) (memory : ℕ) : Type 0 where
+pub record Ready (op : Operation) (o : Order) (g : Registers) (memory a : ℕ) : Type 0 where
   pub first : o .r1 ≤ 7
   pub second : o .r2 ≤ 7
-  pub there : present (spanOf op) (addressOf o (g .general)) memory ≡ true
+  pub there : present (spanOf op) a memory ≡ true
   pub onward : g .status .pointer + 1 < 65536

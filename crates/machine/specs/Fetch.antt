@@ -8,21 +8,20 @@ use Rattle.orders.specs.declared.order.Order.{Order}
 use Rattle.orders.specs.Order.{legalOf, spanOf}
 use Rattle.machine.specs.declared.fetching.Fetched.{Fetched}
 use Rattle.machine.specs.declared.fetching.Operands.{Operands}
-use Rattle.machine.specs.Address.{addressOf}
 use Rattle.machine.specs.Check.{present}
 use Rattle.machine.specs.Operand.{floatOperand, secondOperand}
 
--- R r1 or pair r1, and the second operand
-abbrev pub operandsOf : Order → List ℕ → List ℕ → List ℕ → Operation → Operands
-operandsOf o f n m op = record {
+-- R r1 or pair r1, and the second operand, where S is at a
+abbrev pub operandsOf : Order → List ℕ → List ℕ → List ℕ → ℕ → Operation → Operands
+operandsOf o f n m a op = record {
   operation = op;
   first = floatOperand (op .width) f (o .r1);
-  second = secondOperand (op .place) (op .width) o f n m;
+  second = secondOperand (op .place) (op .width) o f n m a;
 }
 
 -- of a legal order whose S is there; else the number of the check that it does not pass
-unfoldable pub operandsRead : Order → List ℕ → List ℕ → List ℕ → Answer Operands
-operandsRead o f n m = andThen (legalOf o) (λ op. provided (present (spanOf op) (addressOf o n) (length m)) 6 (gives (operandsOf o f n m op)))
+unfoldable pub operandsRead : Order → List ℕ → List ℕ → List ℕ → ℕ → Answer Operands
+operandsRead o f n m a = andThen (legalOf o) (λ op. provided (present (spanOf op) a (length m)) 6 (gives (operandsOf o f n m a op)))
 
 -- what the code's answer says
 abbrev pub saysFetched : Fetched → Answer Operands

@@ -2,9 +2,9 @@ pub mod Stops
 pub mod Says
 pub mod Status
 pub mod Fresh
-pub mod Address
 pub mod Check
 pub mod Operand
+pub mod Address
 pub mod Change
 pub mod Jump
 pub mod Effect
@@ -13,5 +13,6 @@ pub mod Journal
 pub mod Decide
 pub mod Machine
 pub mod Step
+pub mod Unindexed
 pub mod Run
 pub mod Back

@@ -7,7 +7,6 @@ use Rattle.hexfloat.specs.declared.word.Words.{Words}
 use Rattle.hexfloat.specs.Word.{shortWords}
 use Rattle.orders.specs.declared.order.Order.{Order}
 use Rattle.orders.specs.declared.order.Place.{Place}
-use Rattle.machine.specs.Address.{addressOf}
 
 -- a float register among the eight
 abbrev pub floatAt : List ℕ → ℕ → ℕ
@@ -36,9 +35,9 @@ unfoldable pub storageOperand : Width → List ℕ → ℕ → Words
 storageOperand Width.Short m a = shortWords (wordAt m a)
 storageOperand Width.Long m a = longAt m a
 
--- the second operand of an order, from float registers, general registers or memory
-unfoldable pub secondOperand : Place → Width → Order → List ℕ → List ℕ → List ℕ → Words
-secondOperand Place.Nowhere w o f n m = shortWords 0
-secondOperand Place.FloatRegister w o f n m = floatOperand w f (o .r2)
-secondOperand Place.GeneralRegister w o f n m = shortWords (generalAt n (o .r2))
-secondOperand Place.Storage w o f n m = storageOperand w m (addressOf o n)
+-- the second operand of an order, from float registers, general registers or memory, where S is at a
+unfoldable pub secondOperand : Place → Width → Order → List ℕ → List ℕ → List ℕ → ℕ → Words
+secondOperand Place.Nowhere w o f n m a = shortWords 0
+secondOperand Place.FloatRegister w o f n m a = floatOperand w f (o .r2)
+secondOperand Place.GeneralRegister w o f n m a = shortWords (generalAt n (o .r2))
+secondOperand Place.Storage w o f n m a = storageOperand w m a

@@ -1,11 +1,24 @@
 // The address of the storage operand.
 use orders::Order;
 ghost use mathlib.Core.Path.{_≡_};
-ghost use Rattle.machine.specs.Address.{addressOf};
+ghost use Rattle.machine.specs.Address.{indexOf, addressOf};
 
-// The address of S: the one place that computes it.
+// What r2 adds to the address: the lower halfword of G r2. Register 0 cannot hold an index.
+fn index(r: u16, general: &[u32; 8]) -> u32
+    ensures { λ x. ⌜ x ≡ indexOf r (now (general .entry)) ⌝ }
+{
+    if r == 0 {
+        return 0;
+    }
+    if 7 < r {
+        return 0;
+    }
+    general[r as usize] % 65536
+}
+
+// The address of S, up to 131,070: the one place that computes it.
 pub fn address(o: Order, general: &[u32; 8]) -> u32
     ensures { λ r. ⌜ r ≡ addressOf o (now (general .entry)) ⌝ }
 {
-    o.at as u32
+    o.at as u32 + index(o.r2, general)
 }

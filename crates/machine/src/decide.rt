@@ -20,6 +20,7 @@ use orders::span;
 use orders::stored;
 ghost use mathlib.Core.Path.{_≡_};
 ghost use Rattle.protection.specs.Bits.{bitwise};
+ghost use Rattle.machine.specs.Address.{addressOf};
 ghost use Rattle.machine.specs.Decide.{heldStop, entryStop, judged, decided, Judgeable};
 ghost use Rattle.machine.specs.Machine.{registers};
 ghost use Rattle.machine.specs.Stops.{numberOf};
@@ -69,7 +70,7 @@ fn judge(
 ) -> Verdict
     requires { ⌜ Judgeable op o (registers (now float) (now general) status) ⌝ }
     ensures { λ v. ⌜ says v
-        ≡ judged o (registers (now (float .entry)) (now (general .entry)) status) used (bitwise (now (protect .entry))) (now (memory .entry)) journal op ⌝ }
+        ≡ judged o (registers (now (float .entry)) (now (general .entry)) status) used (bitwise (now (protect .entry))) (now (memory .entry)) (addressOf o (now (general .entry))) journal op ⌝ }
 {
     let verb = op.verb;
     let full = used as usize >= journal / 4;
@@ -86,7 +87,7 @@ fn judge(
     if any_protected(protect, at, stored(op)) {
         return Verdict::Refused(Stop::ProtectedStorage);
     }
-    effect(op, o, float, general, status, memory)
+    effect(op, o, float, general, status, memory, at)
 }
 
 // Every check, or the step's effect.

@@ -1,6 +1,5 @@
 // What a legal order does whose storage operand is there: one arm a verb, over the width of its
 // operands.
-use crate::addressing::address;
 use crate::change::Change;
 use crate::change::float_change;
 use crate::change::storage_change;
@@ -230,7 +229,7 @@ fn perform(
     }
 }
 
-// Checks 8 to 11, or the effect. All operands are read here, before anything is written.
+// Checks 8 to 11, or the effect of an order whose S, if it has one, is at `at`. All operands are read here, before anything is written.
 pub fn effect(
     op: Operation,
     o: Order,
@@ -238,14 +237,14 @@ pub fn effect(
     general: &[u32; 8],
     status: Status,
     memory: &[u16],
+    at: u32,
 ) -> Verdict
-    requires { ⌜ Ready op o (registers (now float) (now general) status) (length (now memory)) ⌝ }
-    ensures { λ v. ⌜ says v ≡ effectOf op o (registers (now (float .entry)) (now (general .entry)) status) (now (memory .entry)) ⌝ }
+    requires { ⌜ Ready op o (registers (now float) (now general) status) (length (now memory)) at ⌝ }
+    ensures { λ v. ⌜ says v ≡ effectOf op o (registers (now (float .entry)) (now (general .entry)) status) (now (memory .entry)) at ⌝ }
 {
     let verb = op.verb;
     let width = op.width;
     let place = op.place;
-    let at = address(o, general);
-    let b = second_operand(place, width, o, float, general, at, memory);
+    let b = second_operand(place, width, o, float, general, memory, at);
     perform(verb, width, o, float, general, status, at, b)
 }

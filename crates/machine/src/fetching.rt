@@ -10,6 +10,7 @@ use orders::Order;
 use orders::legal;
 use orders::span;
 ghost use mathlib.Core.Path.{_≡_};
+ghost use Rattle.machine.specs.Address.{addressOf};
 ghost use Rattle.machine.specs.Fetch.{operandsRead, saysFetched};
 
 // R r1 or pair r1, and the second operand, with the order's row.
@@ -27,7 +28,7 @@ pub enum Fetched {
 
 // Checks 5 and 6 of the order, then its operands.
 pub fn fetch(o: Order, float: &[u32; 8], general: &[u32; 8], memory: &[u16]) -> Fetched
-    ensures { λ r. ⌜ saysFetched r ≡ operandsRead o (now (float .entry)) (now (general .entry)) (now (memory .entry)) ⌝ }
+    ensures { λ r. ⌜ saysFetched r ≡ operandsRead o (now (float .entry)) (now (general .entry)) (now (memory .entry)) (addressOf o (now (general .entry))) ⌝ }
 {
     let checked = legal(o);
     let Legality::Legal(op) = checked else {
@@ -40,7 +41,7 @@ pub fn fetch(o: Order, float: &[u32; 8], general: &[u32; 8], memory: &[u16]) -> 
     let place = op.place;
     let width = op.width;
     let first = float_operand(width, float, o.r1 as u32);
-    let second = second_operand(place, width, o, float, general, at, memory);
+    let second = second_operand(place, width, o, float, general, memory, at);
     Fetched::Read(Operands {
         operation: op,
         first,

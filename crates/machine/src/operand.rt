@@ -8,7 +8,6 @@ ghost use mathlib.Core.Bool.{true};
 ghost use Prim.Native.Nat.{_+_, _≤_};
 ghost use lib.ListN.{length};
 ghost use Rattle.hexfloat.specs.Word.{shortWords};
-ghost use Rattle.machine.specs.Address.{addressOf};
 ghost use Rattle.machine.specs.Operand.{floatAt, floatPair, generalAt, wordAt, longAt, floatOperand, storageOperand, secondOperand};
 ghost use Rattle.orders.specs.Order.{halfwords, spanAs};
 ghost use Rattle.machine.specs.Check.{present};
@@ -96,11 +95,11 @@ pub fn second_operand(
     o: Order,
     float: &[u32; 8],
     general: &[u32; 8],
-    at: u32,
     memory: &[u16],
+    at: u32,
 ) -> Words
-    requires { ⌜ (o .r2 ≤ 7) × (at ≡ addressOf o (now general)) × (present (spanAs place width) at (length (now memory)) ≡ true) ⌝ }
-    ensures { λ w. ⌜ w ≡ secondOperand place width o (now (float .entry)) (now (general .entry)) (now (memory .entry)) ⌝ }
+    requires { ⌜ (o .r2 ≤ 7) × (present (spanAs place width) at (length (now memory)) ≡ true) ⌝ }
+    ensures { λ w. ⌜ w ≡ secondOperand place width o (now (float .entry)) (now (general .entry)) (now (memory .entry)) at ⌝ }
 {
     let r = o.r2 as u32;
     match place {

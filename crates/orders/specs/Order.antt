@@ -35,9 +35,9 @@ onFloat v w = row v w Place.FloatRegister 7 7 0
 abbrev pub onGeneral : Verb → Width → Operation
 onGeneral v w = row v w Place.GeneralRegister 7 7 0
 
--- r1 at, the second operand being S
+-- r1 r2 at, the second operand being S, with G r2 as its index (document 02, Job 7)
 abbrev pub onStorage : Verb → Width → Operation
-onStorage v w = row v w Place.Storage 7 0 65535
+onStorage v w = row v w Place.Storage 7 7 65535
 
 -- no second operand
 abbrev pub onCells : Verb → ℕ → ℕ → ℕ → Operation

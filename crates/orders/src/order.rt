@@ -83,7 +83,7 @@ fn on_general(verb: Verb, width: Width) -> Legality
 fn on_storage(verb: Verb, width: Width) -> Legality
     ensures { λ r. ⌜ saysLegality r ≡ gives (onStorage verb width) ⌝ }
 {
-    row(verb, width, Place::Storage, 7, 0, 65535)
+    row(verb, width, Place::Storage, 7, 7, 65535)
 }
 
 fn on_cells(verb: Verb, r1: u16, r2: u16, at: u16) -> Legality

@@ -76,7 +76,7 @@ effect-requires c κs =
     record {
       first = c .before .before .before .before .before .before .before .before .before .before .before .before .pre .first;
       second = c .before .before .before .before .before .before .before .before .before .before .before .before .pre .second;
-      there = rw (← c .before .before .before .before .before .span .ensures, ← c .before .before .before .before .before .before .address .ensures) (sym (c .before .before .before .before .is-present .ensures) ∙ not-false (c .before .before .before .before .is-present .result) (c .before .before .before .if3 .left));
+      there = rw (← c .before .before .before .before .before .span .ensures) (sym (c .before .before .before .before .is-present .ensures) ∙ not-false (c .before .before .before .before .is-present .result) (c .before .before .before .if3 .left));
       onward = c .before .before .before .before .before .before .before .before .before .before .before .before .pre .onward;
     }
 
@@ -85,12 +85,13 @@ unfolding judged
 returns-5 c =
     let a = c .before .before .before .before .before .before .before .before .before .before .before .before .before .args in
     let room = lt-ltb (a .used) (a .journal / 4) (omega (arith, leb-false _ (a .used) (c .before .before .before .before .before .before .before .before .if2 .left))) in
-    let there = rw (c .before .before .before .before .before .before .span .ensures, c .before .before .before .before .before .before .before .address .ensures) at (sym (c .before .before .before .before .before .is-present .ensures) ∙ not-false (c .before .before .before .before .before .is-present .result) (c .before .before .before .before .if3 .left)) in
-    let free = rw (c .before .before .before .stored .ensures, c .before .before .before .before .before .before .before .address .ensures) at (sym (c .before .before .any-protected .ensures) ∙ c .before .if4 .left) in
+    let there = rw (c .before .before .before .before .before .before .span .ensures) at (sym (c .before .before .before .before .before .is-present .ensures) ∙ not-false (c .before .before .before .before .before .is-present .result) (c .before .before .before .before .if3 .left)) in
+    let free = rw (c .before .before .before .stored .ensures) at (sym (c .before .before .any-protected .ensures) ∙ c .before .if4 .left) in
     rw (
       ← c .before .before .before .before .before .before .before .before .before .before .halts .ensures,
       c .before .before .before .before .before .before .before .before .before .if1 .left,
       room,
+      ← c .before .before .before .before .before .before .before .address .ensures,
       there,
       free,
     )

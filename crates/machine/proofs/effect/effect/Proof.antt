@@ -5,19 +5,16 @@ use Rattle.machine.specs.Effect.{effectOf}
 use Rattle.machine.proofs.effect.effect.Statement.{statement}
 use Rattle.machine.proofs.effect.effect.Tie as tie
 
-address-requires : tie.Need-address-requires
-address-requires c κs = search needs
-
 second-operand-requires : tie.Need-second-operand-requires
-second-operand-requires c κs = (c .before .before .pre .second, c .address .ensures, rw (c .address .ensures) (c .before .before .pre .there))
+second-operand-requires c κs = (c .before .pre .second, c .before .pre .there)
 
 perform-requires : tie.Need-perform-requires
 perform-requires c κs = search needs
 
 returns : tie.Need-returns
 unfolding effectOf
-returns c = rw (c .perform .ensures, c .before .second-operand .ensures, c .before .before .address .ensures)
+returns c = rw (c .perform .ensures, c .before .second-operand .ensures)
 
 pub effect-spec : {M : Type 1} → statement M
 effect-spec =
-    tie.close (tie.spec address-requires second-operand-requires perform-requires returns)
+    tie.close (tie.spec second-operand-requires perform-requires returns)

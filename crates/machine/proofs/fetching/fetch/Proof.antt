@@ -56,17 +56,17 @@ second-operand-requires : tie.Need-second-operand-requires
 second-operand-requires c κs =
     let w = legal-passed _ _ (sym (c .before .before .before .before .before .before .before .before .before .legal .ensures) ∙ ap saysLegality (c .before .before .before .before .before .before .before .checked .given .1)) in (
       w .second,
-      c .before .before .before .before .before .address .ensures,
       rw (← c .before .before .before .before .span .ensures) (sym (c .before .before .before .is-present .ensures) ∙ not-false (c .before .before .before .is-present .result) (c .before .before .if1 .left)),
     )
 
 returns-3 : tie.Need-returns-3
 unfolding operandsRead
 returns-3 c =
-    let there = rw (c .before .before .before .before .before .span .ensures, c .before .before .before .before .before .before .address .ensures) at (sym (c .before .before .before .before .is-present .ensures) ∙ not-false (c .before .before .before .before .is-present .result) (c .before .before .before .if1 .left)) in
+    let there = rw (c .before .before .before .before .before .span .ensures) at (sym (c .before .before .before .before .is-present .ensures) ∙ not-false (c .before .before .before .before .is-present .result) (c .before .before .before .if1 .left)) in
     rw (
       ← c .before .before .before .before .before .before .before .before .before .before .legal .ensures,
       c .before .before .before .before .before .before .before .before .checked .given .1,
+      ← c .before .before .before .before .before .before .address .ensures,
       there,
       c .before .float-operand .ensures,
       c .second-operand .ensures,

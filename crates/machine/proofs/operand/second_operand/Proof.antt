@@ -36,7 +36,7 @@ enum-told-4 c = search needs
 
 storage-operand-requires : tie.Need-storage-operand-requires
 storage-operand-requires c κs =
-    reach _ _ _ (rw (c .enum-told4 .given .1) at (c .before .before .before .before .pre .2)) (some (c .before .before .before .before .args .width))
+    reach _ _ _ (rw (c .enum-told4 .given .1) at (c .before .before .before .before .pre .1)) (some (c .before .before .before .before .args .width))
 
 returns : tie.Need-returns
 unfolding secondOperand
@@ -52,7 +52,7 @@ returns-3 c = rw (c .short2 .ensures, c .before .general-at .ensures, c .before 
 
 returns-4 : tie.Need-returns-4
 unfolding secondOperand
-returns-4 c = rw (c .storage-operand .ensures, c .before .enum-told4 .given .1, c .before .before .before .before .before .pre .1)
+returns-4 c = rw (c .storage-operand .ensures, c .before .enum-told4 .given .1)
 
 pub second-operand-spec : {M : Type 1} → statement M
 second-operand-spec =

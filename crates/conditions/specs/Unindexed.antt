@@ -1,0 +1,15 @@
+-- The calls of the machine before storage orders were indexed (document 02, Job 7): steps and runs by its decision of an order.
+use Prim.Native.Nat.{ℕ}
+use mathlib.Core.List.{List}
+use Rattle.protection.specs.Form.{ProtectList}
+use Rattle.machine.specs.Back.{backed}
+use Rattle.machine.specs.Machine.{Machine, committed}
+use Rattle.machine.specs.Run.{repeated, admitted, entryOf}
+use Rattle.machine.specs.Step.{Outcome, outcome, onward}
+use Rattle.machine.specs.Unindexed.{unindexedVerdict}
+use Rattle.conditions.specs.Trail.{Call, step, run, back}
+
+unfoldable pub unindexedCalled : List ℕ → ProtectList → Call → Machine → Outcome Machine
+unindexedCalled d p step x = onward (unindexedVerdict d p x) x (λ e. committed e x) (λ y. outcome y 0 0)
+unindexedCalled d p (run n) x = admitted (entryOf d p x) x (repeated (unindexedVerdict d p) (λ y e. committed e y) n x)
+unindexedCalled d p back x = backed p x
