@@ -17,7 +17,6 @@ use Rattle.orders.specs.declared.order.Order.{Order}
 use Rattle.orders.specs.declared.order.Verb.{Verb}
 use Rattle.orders.specs.Order.{legalOf}
 use Rattle.machine.specs.declared.state.Registers.{Registers}
-use Rattle.machine.specs.Address.{addressOf}
 use Rattle.machine.specs.Effect.{fixedInto, resultInto, productWidth, performed, effectOf}
 use Rattle.machine.specs.Operand.{floatOperand, secondOperand}
 use Rattle.cause.specs.Arithmetic.{stopIn, arithmeticStop, stopByRow, stopBy}
@@ -63,11 +62,11 @@ performed-stop Verb.Multiply Width.Long o g a b =
     mapped-stop (resultInto false Width.Long (g .status) (o .r1)) (productWords Width.Long Width.Long (eqb (g .status .mask) 1) (floatOperand Width.Long (g .float) (o .r1)) b)
 
 module _ (op : Operation) (o : Order) (legal : legalOf o ≡ gives op) where
-  pub effect-stop : (g : Registers) (m : List ℕ) → stopIn (effectOf op o g m) ≡ stopBy o (g .status .mask) (wordsIn op o g m)
+  pub effect-stop : (g : Registers) (m : List ℕ) (a : ℕ) → stopIn (effectOf op o g m a) ≡ stopBy o (g .status .mask) (wordsIn op o g m a)
   unfolding effectOf stopBy
-  effect-stop g m =
-      performed-stop (op .verb) (op .width) o g (addressOf o (g .general)) (secondOperand (op .place) (op .width) o (g .float) (g .general) m)
-      ∙ ap (λ (r : Answer Operation). stopByRow r o (g .status .mask) (wordsIn op o g m)) (sym legal)
+  effect-stop g m a =
+      performed-stop (op .verb) (op .width) o g a (secondOperand (op .place) (op .width) o (g .float) (g .general) m a)
+      ∙ ap (λ (r : Answer Operation). stopByRow r o (g .status .mask) (wordsIn op o g m a)) (sym legal)
 
   pub same-stop : SameStop op o
-  same-stop g h m n words mask = effect-stop g m ∙ rw (words, mask) (sym (effect-stop h n))
+  same-stop g h m n a b words mask = effect-stop g m a ∙ rw (words, mask) (sym (effect-stop h n b))

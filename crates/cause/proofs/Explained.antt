@@ -37,19 +37,19 @@ use Rattle.cause.proofs.Lowest.{any-lowest}
 use Rattle.cause.proofs.Numbers.{number-same, named-words, named-none}
 use Rattle.cause.proofs.Reached.{stop-known, Own, own-by}
 
-module _ (op : Operation) (o : Order) (g : Registers) (m : List ℕ) (legal : legalOf o ≡ gives op) where
+module _ (op : Operation) (o : Order) (g : Registers) (m : List ℕ) (a : ℕ) (legal : legalOf o ≡ gives op) where
   abbrev there : Bool
-  there = present (spanOf op) (addressOf o (g .general)) (length m)
+  there = present (spanOf op) a (length m)
 
   abbrev read : Answer Operands
-  read = operandsRead o (g .float) (g .general) m
+  read = operandsRead o (g .float) (g .general) m a
 
   -- S of an order whose operands were not read is absent, and of one whose operands were read it is there
   not-given : (k : ℕ) → stops k ≡ read → there ≡ false
   unfolding operandsRead
   not-given k h = cases there (rw (legal) at h)
     where
-      cases : (b : Bool) → stops k ≡ cond b (gives (operandsOf o (g .float) (g .general) m op)) (stops 6) → b ≡ false
+      cases : (b : Bool) → stops k ≡ cond b (gives (operandsOf o (g .float) (g .general) m a op)) (stops 6) → b ≡ false
       cases true e = never e
       cases false e = refl
 
@@ -59,13 +59,13 @@ module _ (op : Operation) (o : Order) (g : Registers) (m : List ℕ) (legal : le
   unread Fetched.Illegal t h = not-given 5 h
   unread Fetched.Absent t h = not-given 6 h
 
-  given : (q : Operands) → gives q ≡ read → (there ≡ true) × (q ≡ operandsOf o (g .float) (g .general) m op)
+  given : (q : Operands) → gives q ≡ read → (there ≡ true) × (q ≡ operandsOf o (g .float) (g .general) m a op)
   unfolding operandsRead
   given q h = cases there refl (rw (legal) at h)
     where
       cases :
-          (b : Bool) → there ≡ b → gives q ≡ cond b (gives (operandsOf o (g .float) (g .general) m op)) (stops 6) →
-          (there ≡ true) × (q ≡ operandsOf o (g .float) (g .general) m op)
+          (b : Bool) → there ≡ b → gives q ≡ cond b (gives (operandsOf o (g .float) (g .general) m a op)) (stops 6) →
+          (there ≡ true) × (q ≡ operandsOf o (g .float) (g .general) m a op)
       cases true e z = (e, gives-inj z)
       cases false e z = never (sym z)
 
@@ -75,15 +75,15 @@ module _ (op : Operation) (o : Order) (g : Registers) (p : ProtectList) (m : Lis
   at = addressOf o (g .general)
 
   abbrev answer : Cause
-  answer = explained (stopIn (accessed o g p m op)) o g m p
+  answer = explained (stopIn (accessed o g p m at op)) o g m at p
 
   pub explain-absent : present (spanOf op) at (length m) ≡ false → answer ≡ cause 6 (Named.Address (lowest (isAbsent (length m)) at (spanOf op)))
   unfolding causeNumber namedFor lowestAbsent
   explain-absent absent = rw (absent, h .legal)
 
-  module _ (q : Operands) (operands : gives q ≡ operandsRead o (g .float) (g .general) m) where
+  module _ (q : Operands) (operands : gives q ≡ operandsRead o (g .float) (g .general) m at) where
     reached : present (spanOf op) at (length m) ≡ true
-    reached = given op o g m (h .legal) q operands .0
+    reached = given op o g m at (h .legal) q operands .0
 
     pub explain-protected : lowest (isProtected p) at (storedOf op) < at + storedOf op → answer ≡ cause 7 (Named.Address (lowest (isProtected p) at (storedOf op)))
     unfolding causeNumber namedFor lowestProtected
@@ -91,13 +91,13 @@ module _ (op : Operation) (o : Order) (g : Registers) (p : ProtectList) (m : Lis
 
     module _ (free : at + storedOf op ≤ lowest (isProtected p) at (storedOf op)) where
       abbrev number : ℕ
-      number = stepped (attemptDeck o) attemptProtect (attemptMachine g (q .second)) .stop
+      number = stepped (attemptDeck o) attemptProtect (attemptMachine (g .float) (g .status .mask) (q .second)) .stop
 
       -- the order is tried
-      tried : number ≡ stopIn (effectOf op o g m)
+      tried : number ≡ stopIn (effectOf op o g m at)
       tried =
-          ap (λ (z : Operands). stepped (attemptDeck o) attemptProtect (attemptMachine g (z .second)) .stop) (given op o g m (h .legal) q operands .1)
-          ∙ attempt-stop op o g m h
+          ap (λ (z : Operands). stepped (attemptDeck o) attemptProtect (attemptMachine (g .float) (g .status .mask) (z .second)) .stop) (given op o g m at (h .legal) q operands .1)
+          ∙ attempt-stop op o g m at h
 
       pub explain-taken : number ≡ 0 → answer ≡ cause 18 Named.Nothing
       unfolding causeNumber namedFor
@@ -105,7 +105,7 @@ module _ (op : Operation) (o : Order) (g : Registers) (p : ProtectList) (m : Lis
 
       pub explain-words : 1 ≤ number → answer ≡ cause number (wordsRead (gives q))
       explain-words some =
-          let n = stop-known Own (effectOf op o g m) (own-by op o g m (h .goes)) (omega (arith, tried)) in
+          let n = stop-known Own (effectOf op o g m at) (own-by op o g m at (h .goes)) (omega (arith, tried)) in
           let low : 8 ≤ number = omega (arith, tried, n .some) in
           let high : number ≤ 11 = omega (arith, tried, n .most) in
           rw (
@@ -114,10 +114,10 @@ module _ (op : Operation) (o : Order) (g : Registers) (p : ProtectList) (m : Lis
             le-ltb _ _ free,
             ← tried,
             number-same number (omega arith) high,
-            named-words number o g m p low high,
+            named-words number o g m at p low high,
             operands,
           )
 
 -- a stop before the order is looked at names nothing
-pub explain-early : (k : ℕ) (o : Order) (g : Registers) (m : List ℕ) (p : ProtectList) → 1 ≤ k → k ≤ 4 → explained k o g m p ≡ cause k Named.Nothing
-explain-early k o g m p some few = rw (number-same k some (omega arith), named-none k o g m p (λ l u. omega arith))
+pub explain-early : (k : ℕ) (o : Order) (g : Registers) (m : List ℕ) (a : ℕ) (p : ProtectList) → 1 ≤ k → k ≤ 4 → explained k o g m a p ≡ cause k Named.Nothing
+explain-early k o g m a p some few = rw (number-same k some (omega arith), named-none k o g m a p (λ l u. omega arith))

@@ -7,3 +7,4 @@ pub mod Numbers
 pub mod Packed
 pub mod Reached
 pub mod Theorems
+pub mod Unindexed

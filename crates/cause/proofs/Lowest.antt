@@ -2,11 +2,13 @@
 use Prim.Native.Nat.{ℕ, zero, suc, _+_, _-_, _<_, _≤_}
 use mathlib.Core.Path.{_≡_, refl, sym, ap, _∙_}
 use mathlib.Core.Bool.{Bool, true, false, cond, _||_}
-use lib.Dec.{leb, ltb}
+use mathlib.Core.Logic.{⊎-elim}
+use lib.Dec.{eqb, leb, ltb}
+use native.Mathlib.Nat.{eq-zero-or-pos}
 use native.Mathlib.Omega.{arith}
-use borrow.Author.Tests.{leb-true, leb-false, le-leb, lt-leb, lt-ltb, le-ltb}
+use borrow.Author.Tests.{eqb-false, leb-true, leb-false, le-leb, lt-leb, lt-ltb, le-ltb}
 use Rattle.protection.specs.Form.{ProtectList, isProtected}
-use Rattle.machine.specs.Check.{anyProtected}
+use Rattle.machine.specs.Check.{present, anyProtected}
 use Rattle.cause.specs.Storage.{lowest, IsLowest, isAbsent}
 
 module _ (refuses : ℕ → Bool) where
@@ -93,3 +95,19 @@ module _ (memory : ℕ) where
       cases : (t : Bool) → leb memory a ≡ t → lowest (isAbsent memory) a n < a + n
       cases true e = omega (arith, absent-here a n (leb-true memory a e))
       cases false e = omega (arith, absent-end a n (omega (arith, leb-false memory a e)) h)
+
+-- a part of S is past the end of memory
+pub past-end : (span a memory : ℕ) → present span a memory ≡ false → (0 < span) × (memory < a + span)
+unfolding present
+past-end span a memory h = cases (eqb span 0) (leb (a + span) memory) refl refl h
+  where
+    cases : (x y : Bool) → eqb span 0 ≡ x → leb (a + span) memory ≡ y → (x || y) ≡ false → (0 < span) × (memory < a + span)
+    cases true y e f h = absurd (let z : _≡_ {A = ℕ} 0 1 = cc in omega arith)
+    cases false true e f h = absurd (let z : _≡_ {A = ℕ} 0 1 = cc in omega arith)
+    cases false false e f h = let some = eqb-false span 0 e in (⊎-elim (λ z. absurd (some z)) (λ z. z) (eq-zero-or-pos span), leb-false (a + span) memory f)
+
+-- some halfword is protected
+pub any-some : (p : ProtectList) (a n : ℕ) → anyProtected p a n ≡ true → 0 < n
+unfolding anyProtected
+any-some p a zero h = absurd (let z : _≡_ {A = ℕ} 0 1 = cc in omega arith)
+any-some p a (suc n) h = omega arith

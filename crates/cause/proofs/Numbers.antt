@@ -38,26 +38,26 @@ pub number-listed : (k : ℕ) → (causeNumber k ≡ 18 → ⊥) → (1 ≤ caus
 number-listed k h =
     ⊎-elim (λ z. let same = number-same k (z .0) (z .1) in (omega (arith, z .0, same), omega (arith, z .1, same))) (λ z. absurd (h z)) (number-or k)
 
-module _ (k : ℕ) (o : Order) (g : Registers) (m : List ℕ) (p : ProtectList) where
+module _ (k : ℕ) (o : Order) (g : Registers) (m : List ℕ) (a : ℕ) (p : ProtectList) where
   -- 8 to 11 name words
-  pub named-words : 8 ≤ k → k ≤ 11 → namedFor k o g m p ≡ wordsRead (operandsRead o (g .float) (g .general) m)
+  pub named-words : 8 ≤ k → k ≤ 11 → namedFor k o g m a p ≡ wordsRead (operandsRead o (g .float) (g .general) m a)
   unfolding namedFor
   named-words l u =
       rw (ne-eqb k 5 (λ z. omega arith), ne-eqb k 6 (λ z. omega arith), ne-eqb k 7 (λ z. omega arith), le-leb 8 k l, le-leb k 11 u)
 
   -- what is none of 5 to 11 names nothing
-  pub named-none : (5 ≤ k → k ≤ 11 → ⊥) → namedFor k o g m p ≡ Named.Nothing
+  pub named-none : (5 ≤ k → k ≤ 11 → ⊥) → namedFor k o g m a p ≡ Named.Nothing
   unfolding namedFor
   named-none h = cases (leb 8 k) refl
     where
       not-one : (n : ℕ) → 5 ≤ n → n ≤ 11 → eqb k n ≡ false
       not-one n l u = ne-eqb k n (λ z. h (omega arith) (omega arith))
 
-      cases : (x : Bool) → leb 8 k ≡ x → namedFor k o g m p ≡ Named.Nothing
-      cases false a = rw (not-one 5 (omega arith) (omega arith), not-one 6 (omega arith) (omega arith), not-one 7 (omega arith) (omega arith), a)
-      cases true a =
-          let past : leb k 11 ≡ false = high (leb k 11) refl (leb-true 8 k a) in
-          rw (not-one 5 (omega arith) (omega arith), not-one 6 (omega arith) (omega arith), not-one 7 (omega arith) (omega arith), a, past)
+      cases : (x : Bool) → leb 8 k ≡ x → namedFor k o g m a p ≡ Named.Nothing
+      cases false e = rw (not-one 5 (omega arith) (omega arith), not-one 6 (omega arith) (omega arith), not-one 7 (omega arith) (omega arith), e)
+      cases true e =
+          let past : leb k 11 ≡ false = high (leb k 11) refl (leb-true 8 k e) in
+          rw (not-one 5 (omega arith) (omega arith), not-one 6 (omega arith) (omega arith), not-one 7 (omega arith) (omega arith), e, past)
         where
           high : (x : Bool) → leb k 11 ≡ x → 8 ≤ k → x ≡ false
           high false b l = refl

@@ -14,7 +14,6 @@ use Rattle.protection.specs.Form.{ProtectList, covers, isProtected}
 use Rattle.protection.specs.Theorems.{Alike}
 use Rattle.machine.specs.declared.state.Registers.{Registers}
 use Rattle.machine.specs.declared.verdict.Effect.{Effect}
-use Rattle.machine.specs.Address.{addressOf}
 use Rattle.machine.specs.Decide.{entryStop, judgedAt, decided}
 use Rattle.machine.specs.Machine.{Machine}
 use Rattle.machine.specs.Step.{verdictOf}
@@ -22,7 +21,7 @@ use Rattle.machine.proofs.Alike.{decided-alike}
 use Rattle.machine.proofs.Checks.{held, entered, entry-number, reach, present-fewer}
 use Rattle.machine.proofs.Rows.{legal-passed}
 use Rattle.cause.specs.Arithmetic.{stopIn}
-use Rattle.cause.specs.Cause.{cause, causeNumber, namedFor, explained, nextOrder, whyOf}
+use Rattle.cause.specs.Cause.{cause, causeNumber, namedFor, explained, nextOrder, nextAddress, whyOf}
 use Rattle.cause.specs.Storage.{lowest, lowestProtected}
 use Rattle.cause.proofs.Reached.{Known, decided-known, stop-known}
 
@@ -41,12 +40,12 @@ past-entry k rest few h = cases (eqb k 0) refl h
     cases false e z = absurd (omega (arith, z))
 
 -- only 7 looks at the protect list
-module _ (o : Order) (g : Registers) (m : List ℕ) (p q : ProtectList) where
-  named-alike : (k : ℕ) → (k ≡ 7 → lowestProtected o (g .general) p ≡ lowestProtected o (g .general) q) → namedFor k o g m p ≡ namedFor k o g m q
+module _ (o : Order) (g : Registers) (m : List ℕ) (a : ℕ) (p q : ProtectList) where
+  named-alike : (k : ℕ) → (k ≡ 7 → lowestProtected o a p ≡ lowestProtected o a q) → namedFor k o g m a p ≡ namedFor k o g m a q
   unfolding namedFor
   named-alike k h = cases (eqb k 7) refl
     where
-      cases : (b : Bool) → eqb k 7 ≡ b → namedFor k o g m p ≡ namedFor k o g m q
+      cases : (b : Bool) → eqb k 7 ≡ b → namedFor k o g m a p ≡ namedFor k o g m a q
       cases true e = rw (h (eqb-true k 7 e))
       cases false e = rw e
 
@@ -56,6 +55,9 @@ module _ (d : List ℕ) (p q : ProtectList) (x : Machine) (same : Alike (length 
 
   abbrev g : Registers
   g = x .state .registers
+
+  abbrev a : ℕ
+  a = nextAddress d x
 
   abbrev k : ℕ
   k = stopIn (verdictOf d p x)
@@ -71,12 +73,11 @@ module _ (d : List ℕ) (p q : ProtectList) (x : Machine) (same : Alike (length 
       held p (g .status) (x .state .used) (length (x .memory)) (length (x .journal))
       (entered p (g .status) (x .state .used) (length (x .memory)) (length (x .journal)) (length d) zero .1) .cover
 
-  protected-alike : k ≡ 7 → lowestProtected o (g .general) p ≡ lowestProtected o (g .general) q
+  protected-alike : k ≡ 7 → lowestProtected o a p ≡ lowestProtected o a q
   unfolding lowestProtected
   protected-alike e =
-      let known = stop-known (Known o g p (x .memory)) (verdictOf d p x) (decided-known d p g (x .state .used) (x .memory) (length (x .journal))) (omega (arith, e)) .protected e in
+      let known = stop-known (Known o g p (x .memory) a) (verdictOf d p x) (decided-known d p g (x .state .used) (x .memory) (length (x .journal))) (omega (arith, e)) .protected e in
       let op = known .0 in
-      let a = addressOf o (g .general) in
       let there = present-fewer (storedOf op) (spanOf op) a (length (x .memory)) (legal-passed o op (known .1) .stored) (known .2) in
       rw (known .1)
       (lowest-alike (isProtected p) (isProtected q) (storedOf op) a
@@ -85,5 +86,5 @@ module _ (d : List ℕ) (p q : ProtectList) (x : Machine) (same : Alike (length 
   pub same-cause : whyOf d p x ≡ whyOf d q x
   unfolding whyOf
   same-cause =
-      ap (cause (causeNumber k)) (named-alike o g (x .memory) p q k protected-alike)
-      ∙ ap (λ (v : Answer Effect). explained (stopIn v) o g (x .memory) q) (decided-alike d p q g (x .state .used) (x .memory) (length (x .journal)) same)
+      ap (cause (causeNumber k)) (named-alike o g (x .memory) a p q k protected-alike)
+      ∙ ap (λ (v : Answer Effect). explained (stopIn v) o g (x .memory) a q) (decided-alike d p q g (x .state .used) (x .memory) (length (x .journal)) same)

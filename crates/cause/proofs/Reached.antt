@@ -51,23 +51,23 @@ pub record Own (n : ℕ) : Type 0 where
   pub some : 8 ≤ n
   pub most : n ≤ 11
 
-pub own-by : (op : Operation) (o : Order) (g : Registers) (m : List ℕ) → isHalt (op .verb) ≡ false → StopsBy Own (effectOf op o g m)
-own-by op o g m goes = effect-by Own (λ n l u. record { some = l; most = u }) op o g m (λ z. absurd (let y : _≡_ {A = ℕ} 0 1 = cc in omega arith))
+pub own-by : (op : Operation) (o : Order) (g : Registers) (m : List ℕ) (a : ℕ) → isHalt (op .verb) ≡ false → StopsBy Own (effectOf op o g m a)
+own-by op o g m a goes = effect-by Own (λ n l u. record { some = l; most = u }) op o g m a (λ z. absurd (let y : _≡_ {A = ℕ} 0 1 = cc in omega arith))
 
--- an order o with these registers, protect list and memory that is stopped by k: by check 5, by check 6, by check 7, or by its own arithmetic
-pub record Known (o : Order) (g : Registers) (p : ProtectList) (m : List ℕ) (k : ℕ) : Type 0 where
+-- an order o with these registers, protect list and memory, its S at a, that is stopped by k: by check 5, by check 6, by check 7, or by its own arithmetic
+pub record Known (o : Order) (g : Registers) (p : ProtectList) (m : List ℕ) (a k : ℕ) : Type 0 where
   pub illegal : k ≡ 5 → legalOf o ≡ stops 5
-  pub absent : k ≡ 6 → (op : Operation) × (legalOf o ≡ gives op) × (present (spanOf op) (addressOf o (g .general)) (length m) ≡ false)
+  pub absent : k ≡ 6 → (op : Operation) × (legalOf o ≡ gives op) × (present (spanOf op) a (length m) ≡ false)
   pub protected :
       k ≡ 7 →
-      (op : Operation) × (legalOf o ≡ gives op) × (present (spanOf op) (addressOf o (g .general)) (length m) ≡ true) × (anyProtected p (addressOf o (g .general)) (storedOf op) ≡ true)
+      (op : Operation) × (legalOf o ≡ gives op) × (present (spanOf op) a (length m) ≡ true) × (anyProtected p a (storedOf op) ≡ true)
   pub arithmetic :
       8 ≤ k → k ≤ 11 →
-      (op : Operation) × (legalOf o ≡ gives op) × (present (spanOf op) (addressOf o (g .general)) (length m) ≡ true) × (effectOf op o g m ≡ stops k)
+      (op : Operation) × (legalOf o ≡ gives op) × (present (spanOf op) a (length m) ≡ true) × (effectOf op o g m a ≡ stops k)
 
-module _ (o : Order) (g : Registers) (p : ProtectList) (m : List ℕ) where
+module _ (o : Order) (g : Registers) (p : ProtectList) (m : List ℕ) (a : ℕ) where
   -- nothing is said of a stop before check 5, nor of 12 and 13
-  outside : (k : ℕ) → (5 ≤ k → k ≤ 11 → ⊥) → Known o g p m k
+  outside : (k : ℕ) → (5 ≤ k → k ≤ 11 → ⊥) → Known o g p m a k
   outside k h = record {
     illegal = λ e. absurd (h (omega arith) (omega arith));
     absent = λ e. absurd (h (omega arith) (omega arith));
@@ -75,7 +75,7 @@ module _ (o : Order) (g : Registers) (p : ProtectList) (m : List ℕ) where
     arithmetic = λ l u. absurd (h (omega arith) u);
   }
 
-  five : legalOf o ≡ stops 5 → Known o g p m 5
+  five : legalOf o ≡ stops 5 → Known o g p m a 5
   five h = record {
     illegal = λ e. h;
     absent = λ e. absurd (omega arith);
@@ -84,7 +84,7 @@ module _ (o : Order) (g : Registers) (p : ProtectList) (m : List ℕ) where
   }
 
   module _ (op : Operation) (legal : legalOf o ≡ gives op) where
-    six : present (spanOf op) (addressOf o (g .general)) (length m) ≡ false → Known o g p m 6
+    six : present (spanOf op) a (length m) ≡ false → Known o g p m a 6
     six h = record {
       illegal = λ e. absurd (omega arith);
       absent = λ e. (op, legal, h);
@@ -92,7 +92,7 @@ module _ (o : Order) (g : Registers) (p : ProtectList) (m : List ℕ) where
       arithmetic = λ l u. absurd (omega arith);
     }
 
-    seven : present (spanOf op) (addressOf o (g .general)) (length m) ≡ true → anyProtected p (addressOf o (g .general)) (storedOf op) ≡ true → Known o g p m 7
+    seven : present (spanOf op) a (length m) ≡ true → anyProtected p a (storedOf op) ≡ true → Known o g p m a 7
     seven there h = record {
       illegal = λ e. absurd (omega arith);
       absent = λ e. absurd (omega arith);
@@ -100,7 +100,7 @@ module _ (o : Order) (g : Registers) (p : ProtectList) (m : List ℕ) where
       arithmetic = λ l u. absurd (omega arith);
     }
 
-    own : present (spanOf op) (addressOf o (g .general)) (length m) ≡ true → (k : ℕ) → Own k → effectOf op o g m ≡ stops k → Known o g p m k
+    own : present (spanOf op) a (length m) ≡ true → (k : ℕ) → Own k → effectOf op o g m a ≡ stops k → Known o g p m a k
     own there k n h = record {
       illegal = λ e. absurd (omega (arith, n .some));
       absent = λ e. absurd (omega (arith, n .some));
@@ -108,27 +108,27 @@ module _ (o : Order) (g : Registers) (p : ProtectList) (m : List ℕ) where
       arithmetic = λ l u. (op, legal, there, h);
     }
 
-    judged-known : (used journal : ℕ) → StopsBy (Known o g p m) (judged o g used p m journal op)
+    judged-known : (used journal : ℕ) → StopsBy (Known o g p m a) (judged o g used p m a journal op)
     unfolding judged
     judged-known used journal =
-        let a = addressOf o (g .general) in
-        provided-known (Known o g p m) (not (isHalt (op .verb))) 12 _ (λ z. outside 12 (λ l u. omega arith)) (λ goes.
-        provided-known (Known o g p m) (ltb used (journal / 4)) 13 _ (λ z. outside 13 (λ l u. omega arith)) (λ z.
-        provided-known (Known o g p m) (present (spanOf op) a (length m)) 6 _ six (λ there.
-        provided-known (Known o g p m) (not (anyProtected p a (storedOf op))) 7 _ (λ z. seven there (not-false (anyProtected p a (storedOf op)) z)) (λ z.
-        stops-known (Known o g p m) (effectOf op o g m) (λ k h.
-        own there k (stops-at Own (effectOf op o g m) k h (own-by op o g m (not-true (isHalt (op .verb)) goes))) h)))))
+        provided-known (Known o g p m a) (not (isHalt (op .verb))) 12 _ (λ z. outside 12 (λ l u. omega arith)) (λ goes.
+        provided-known (Known o g p m a) (ltb used (journal / 4)) 13 _ (λ z. outside 13 (λ l u. omega arith)) (λ z.
+        provided-known (Known o g p m a) (present (spanOf op) a (length m)) 6 _ six (λ there.
+        provided-known (Known o g p m a) (not (anyProtected p a (storedOf op))) 7 _ (λ z. seven there (not-false (anyProtected p a (storedOf op)) z)) (λ z.
+        stops-known (Known o g p m a) (effectOf op o g m a) (λ k h.
+        own there k (stops-at Own (effectOf op o g m a) k h (own-by op o g m a (not-true (isHalt (op .verb)) goes))) h)))))
 
-  legal-known : (k : ℕ) → legalOf o ≡ stops k → Known o g p m k
+  legal-known : (k : ℕ) → legalOf o ≡ stops k → Known o g p m a k
   legal-known k h =
       let is : k ≡ 5 = stops-at (λ (n : ℕ). n ≡ 5) (legalOf o) k h (legal-by (λ (n : ℕ). n ≡ 5) refl o) in
-      subst (Known o g p m) (sym is) (five (h ∙ ap stops is))
+      subst (Known o g p m a) (sym is) (five (h ∙ ap stops is))
 
-pub decided-known : (d : List ℕ) (p : ProtectList) (g : Registers) (used : ℕ) (m : List ℕ) (journal : ℕ) → StopsBy (Known (orderAt d (g .status .pointer)) g p m) (decided d p g used m journal)
+pub decided-known : (d : List ℕ) (p : ProtectList) (g : Registers) (used : ℕ) (m : List ℕ) (journal : ℕ) → StopsBy (Known (orderAt d (g .status .pointer)) g p m (addressOf (orderAt d (g .status .pointer)) (g .general))) (decided d p g used m journal)
 unfolding decided
 decided-known d p g used m journal =
     let o = orderAt d (g .status .pointer) in
+    let a = addressOf o (g .general) in
     let k = entryStop (length d) p (g .status) used (length m) journal in
-    checked-by (Known o g p m) k _ (λ z. outside o g p m k (λ l u. omega (arith, entry-number p (g .status) used (length m) journal (length d))))
-    (provided-known (Known o g p m) (ltb (g .status .pointer) (length d / 4)) 4 _ (λ z. outside o g p m 4 (λ l u. omega arith)) (λ z.
-    then-known (Known o g p m) (legalOf o) (judged o g used p m journal) (legal-known o g p m) (λ op legal. judged-known o g p m op legal used journal)))
+    checked-by (Known o g p m a) k _ (λ z. outside o g p m a k (λ l u. omega (arith, entry-number p (g .status) used (length m) journal (length d))))
+    (provided-known (Known o g p m a) (ltb (g .status .pointer) (length d / 4)) 4 _ (λ z. outside o g p m a 4 (λ l u. omega arith)) (λ z.
+    then-known (Known o g p m a) (legalOf o) (judged o g used p m a journal) (legal-known o g p m a) (λ op legal. judged-known o g p m a op legal used journal)))

@@ -1,21 +1,17 @@
 -- What is named is a true cause.
-use Prim.Native.Nat.{ℕ, _+_, _<_, _≤_}
+use Prim.Native.Nat.{ℕ, _≤_}
 use mathlib.Core.Path.{_≡_, refl, sym, ap, _∙_}
 use mathlib.Core.List.{List}
-use mathlib.Core.Logic.{⊎-elim}
-use mathlib.Core.Bool.{Bool, true, false, _||_}
-use lib.Dec.{eqb, leb}
+use mathlib.Core.Bool.{true, false}
 use lib.ListN.{length}
-use native.Mathlib.Nat.{eq-zero-or-pos}
 use native.Mathlib.Omega.{arith}
-use borrow.Author.Tests.{ltb-true, eqb-false, leb-false}
+use borrow.Author.Tests.{ltb-true}
 use Rattle.hexfloat.specs.Answer.{gives, stops}
 use Rattle.orders.specs.declared.order.Operation.{Operation}
 use Rattle.orders.specs.declared.order.Order.{Order}
 use Rattle.orders.specs.Order.{legalOf, spanOf, storedOf}
 use Rattle.protection.specs.Form.{ProtectList, isProtected}
 use Rattle.machine.specs.declared.state.Registers.{Registers}
-use Rattle.machine.specs.Address.{addressOf}
 use Rattle.machine.specs.Check.{present, anyProtected}
 use Rattle.machine.specs.Fetch.{operandsRead}
 use Rattle.machine.specs.Machine.{Machine}
@@ -23,7 +19,7 @@ use Rattle.machine.specs.Effect.{effectOf}
 use Rattle.machine.specs.Step.{verdictOf}
 use Rattle.cause.specs.declared.naming.Named.{Named}
 use Rattle.cause.specs.Arithmetic.{stopIn, stopBy}
-use Rattle.cause.specs.Cause.{valuesOf, causeNumber, namedFor, nextOrder, whyOf}
+use Rattle.cause.specs.Cause.{valuesOf, causeNumber, namedFor, nextOrder, nextAddress, whyOf}
 use Rattle.cause.specs.Cell.{firstCell, breaks}
 use Rattle.cause.specs.Storage.{isAbsent, lowestAbsent, lowestProtected}
 use Rattle.cause.specs.Theorems.{NamesCell, NamesAddress, TrueCause, wordsIn, Theorems}
@@ -31,65 +27,56 @@ use Rattle.cause.specs.Words.{wordsRead}
 use Rattle.cause.proofs.Arithmetic.{effect-stop, same-stop}
 use Rattle.cause.proofs.Attempted.{step-number}
 use Rattle.cause.proofs.Cells.{first-broken}
-use Rattle.cause.proofs.Lowest.{lowest-is, any-lowest, absent-found}
+use Rattle.cause.proofs.Lowest.{past-end, lowest-is, any-lowest, absent-found}
 use Rattle.cause.proofs.Numbers.{number-same, number-is, number-listed, named-words, named-none}
 use Rattle.cause.proofs.Packed.{same-cause}
 use Rattle.cause.proofs.Reached.{stop-known, Known, decided-known}
+use Rattle.cause.proofs.Unindexed.{unindexed}
 
--- a part of S is past the end of memory
-past-end : (span a memory : ℕ) → present span a memory ≡ false → (0 < span) × (memory < a + span)
-unfolding present
-past-end span a memory h = cases (eqb span 0) (leb (a + span) memory) refl refl h
-  where
-    cases : (x y : Bool) → eqb span 0 ≡ x → leb (a + span) memory ≡ y → (x || y) ≡ false → (0 < span) × (memory < a + span)
-    cases true y e f h = absurd (let z : _≡_ {A = ℕ} 0 1 = cc in omega arith)
-    cases false true e f h = absurd (let z : _≡_ {A = ℕ} 0 1 = cc in omega arith)
-    cases false false e f h = let some = eqb-false span 0 e in (⊎-elim (λ z. absurd (some z)) (λ z. z) (eq-zero-or-pos span), leb-false (a + span) memory f)
-
-module _ (o : Order) (g : Registers) (p : ProtectList) (m : List ℕ) where
+module _ (o : Order) (g : Registers) (p : ProtectList) (m : List ℕ) (a : ℕ) where
   abbrev named : ℕ → Named
-  named k = namedFor k o g m p
+  named k = namedFor k o g m a p
 
   cell-named : (k : ℕ) → k ≡ 5 → legalOf o ≡ stops 5 → NamesCell o (named k)
   unfolding namedFor
   cell-named k e h = record { cell = firstCell (breaks o); named = rw (e); first = first-broken o 5 h }
 
   module _ (op : Operation) (legal : legalOf o ≡ gives op) where
-    absent-named : (k : ℕ) → k ≡ 6 → present (spanOf op) (addressOf o (g .general)) (length m) ≡ false → NamesAddress (isAbsent (length m)) spanOf o (g .general) (named k)
+    absent-named : (k : ℕ) → k ≡ 6 → present (spanOf op) a (length m) ≡ false → NamesAddress (isAbsent (length m)) spanOf o a (named k)
     unfolding namedFor lowestAbsent
     absent-named k e h =
-        let z = past-end (spanOf op) (addressOf o (g .general)) (length m) h in
+        let z = past-end (spanOf op) a (length m) h in
         record {
           operation = op;
           legal = legal;
-          address = lowestAbsent o (g .general) (length m);
+          address = lowestAbsent o a (length m);
           named = rw (e);
-          lowest = rw (legal) (lowest-is (isAbsent (length m)) (addressOf o (g .general)) (spanOf op) (absent-found (length m) (addressOf o (g .general)) (spanOf op) (z .0) (z .1)));
+          lowest = rw (legal) (lowest-is (isAbsent (length m)) a (spanOf op) (absent-found (length m) a (spanOf op) (z .0) (z .1)));
         }
 
-    protected-named : (k : ℕ) → k ≡ 7 → anyProtected p (addressOf o (g .general)) (storedOf op) ≡ true → NamesAddress (isProtected p) storedOf o (g .general) (named k)
+    protected-named : (k : ℕ) → k ≡ 7 → anyProtected p a (storedOf op) ≡ true → NamesAddress (isProtected p) storedOf o a (named k)
     unfolding namedFor lowestProtected
     protected-named k e h =
         record {
           operation = op;
           legal = legal;
-          address = lowestProtected o (g .general) p;
+          address = lowestProtected o a p;
           named = rw (e);
-          lowest = rw (legal) (lowest-is (isProtected p) (addressOf o (g .general)) (storedOf op) (ltb-true _ _ (sym (any-lowest p (addressOf o (g .general)) (storedOf op)) ∙ h)));
+          lowest = rw (legal) (lowest-is (isProtected p) a (storedOf op) (ltb-true _ _ (sym (any-lowest p a (storedOf op)) ∙ h)));
         }
 
     -- the words of a legal order whose S is there
-    words-are : present (spanOf op) (addressOf o (g .general)) (length m) ≡ true → valuesOf (wordsRead (operandsRead o (g .float) (g .general) m)) ≡ wordsIn op o g m
+    words-are : present (spanOf op) a (length m) ≡ true → valuesOf (wordsRead (operandsRead o (g .float) (g .general) m a)) ≡ wordsIn op o g m a
     unfolding wordsRead operandsRead
     words-are there = rw (legal, there)
 
     words-stop :
-        (k : ℕ) → 8 ≤ k → k ≤ 11 → present (spanOf op) (addressOf o (g .general)) (length m) ≡ true → effectOf op o g m ≡ stops k →
+        (k : ℕ) → 8 ≤ k → k ≤ 11 → present (spanOf op) a (length m) ≡ true → effectOf op o g m a ≡ stops k →
         stopBy o (g .status .mask) (valuesOf (named k)) ≡ k
     words-stop k l u there h =
-        ap (λ (n : Named). stopBy o (g .status .mask) (valuesOf n)) (named-words k o g m p l u)
+        ap (λ (n : Named). stopBy o (g .status .mask) (valuesOf n)) (named-words k o g m a p l u)
         ∙ ap (stopBy o (g .status .mask)) (words-are there)
-        ∙ sym (effect-stop op o legal g m)
+        ∙ sym (effect-stop op o legal g m a)
         ∙ ap stopIn h
 
 true-cause : (d : List ℕ) (p : ProtectList) (x : Machine) → TrueCause d p x (whyOf d p x)
@@ -98,28 +85,29 @@ true-cause d p x =
     let g = x .state .registers in
     let o = nextOrder d x in
     let m = x .memory in
+    let a = nextAddress d x in
     let k = stopIn (verdictOf d p x) in
-    let known = stop-known (Known o g p m) (verdictOf d p x) (decided-known d p g (x .state .used) m (length (x .journal))) in
+    let known = stop-known (Known o g p m a) (verdictOf d p x) (decided-known d p g (x .state .used) m (length (x .journal))) in
     record {
       number = ap causeNumber (sym (step-number d p x));
       listed = number-listed k;
-      nothing = λ h. named-none k o g m p (λ l u. let same = number-same k (omega arith) u in h (omega (arith, same)) (omega (arith, same)));
-      cell = λ h. let q = number-is k 5 h (omega arith) in cell-named o g p m k (q .0) (known (q .1) .illegal (q .0));
+      nothing = λ h. named-none k o g m a p (λ l u. let same = number-same k (omega arith) u in h (omega (arith, same)) (omega (arith, same)));
+      cell = λ h. let q = number-is k 5 h (omega arith) in cell-named o g p m a k (q .0) (known (q .1) .illegal (q .0));
       absent = λ h.
           let q = number-is k 6 h (omega arith) in
           let z = known (q .1) .absent (q .0) in
-          absent-named o g p m (z .0) (z .1) k (q .0) (z .2);
+          absent-named o g p m a (z .0) (z .1) k (q .0) (z .2);
       protected = λ h.
           let q = number-is k 7 h (omega arith) in
           let z = known (q .1) .protected (q .0) in
-          protected-named o g p m (z .0) (z .1) k (q .0) (z .3);
+          protected-named o g p m a (z .0) (z .1) k (q .0) (z .3);
       words = λ l u.
           let q = number-is k (causeNumber k) refl u in
           let low : 8 ≤ k = omega (arith, q .0) in
           let high : k ≤ 11 = omega (arith, q .0) in
           let z = known (q .1) .arithmetic low high in
-          words-stop o g p m (z .0) (z .1) k low high (z .2) (z .3) ∙ q .0;
+          words-stop o g p m a (z .0) (z .1) k low high (z .2) (z .3) ∙ q .0;
     }
 
 pub theorems : Theorems
-theorems = record { true-cause = true-cause; same-stop = same-stop; same-cause = same-cause }
+theorems = record { true-cause = true-cause; same-stop = same-stop; same-cause = same-cause; unindexed = unindexed }

@@ -1,4 +1,4 @@
--- The machine on which an order is tried with nothing but its registers, its second operand and the mask. For the private functions of this crate.
+-- The machine on which an order is tried with nothing but the float registers, its second operand and the mask. For the private functions of this crate.
 use Prim.Native.Nat.{ℕ, _/_, _%_, _≤_}
 use mathlib.Core.Path.{_≡_}
 use mathlib.Core.Bool.{false}
@@ -19,7 +19,7 @@ use Rattle.machine.specs.Status.{status}
 abbrev pub halfwordsOf : Words → List ℕ
 halfwordsOf b = b .high / 65536 ∷ b .high % 65536 ∷ b .low / 65536 ∷ b .low % 65536 ∷ []
 
--- the order alone, its S at address 0
+-- the order alone, its S at address 0: every general register is 0, and so is every index
 abbrev pub attemptDeck : Order → List ℕ
 attemptDeck o = o .code ∷ o .r1 ∷ o .r2 ∷ 0 ∷ []
 
@@ -28,8 +28,8 @@ abbrev pub attemptProtect : ProtectList
 attemptProtect = bitwise (replicate 1 0)
 
 -- the second operand in storage, room for one record, and no step taken yet
-abbrev pub attemptMachine : Registers → Words → Machine
-attemptMachine g b = machine (state (registers (g .float) (g .general) (status 0 (g .status .mask) 0)) 0) (halfwordsOf b) (replicate 4 0)
+abbrev pub attemptMachine : List ℕ → ℕ → Words → Machine
+attemptMachine f mask b = machine (state (registers f (replicate 8 0) (status 0 mask 0)) 0) (halfwordsOf b) (replicate 4 0)
 
 -- what the checks leave known where an order's storage is looked at
 pub record Accessible (op : Operation) (o : Order) (g : Registers) : Type 0 where

@@ -8,6 +8,7 @@ use Rattle.orders.specs.declared.order.Order.{Order}
 use Rattle.orders.specs.Order.{orderAt}
 use Rattle.protection.specs.Form.{ProtectList}
 use Rattle.machine.specs.declared.state.Registers.{Registers}
+use Rattle.machine.specs.Address.{addressOf}
 use Rattle.machine.specs.Fetch.{operandsRead}
 use Rattle.machine.specs.Machine.{Machine}
 use Rattle.machine.specs.Step.{verdictOf}
@@ -34,23 +35,26 @@ cause k n = record { number = k; named = n }
 unfoldable pub causeNumber : ℕ → ℕ
 causeNumber k = cond (eqb k 0) 18 (cond (leb k 11) k 18)
 
--- 5 names a cell, 6 and 7 an address, 8 to 11 words, the others nothing
-unfoldable pub namedFor : ℕ → Order → Registers → List ℕ → ProtectList → Named
-namedFor k o g m p =
+-- 5 names a cell, 6 and 7 an address of S, which begins at a, 8 to 11 words, the others nothing
+unfoldable pub namedFor : ℕ → Order → Registers → List ℕ → ℕ → ProtectList → Named
+namedFor k o g m a p =
     cond (eqb k 5) (Named.Cell (firstCell (breaks o)))
-    (cond (eqb k 6) (Named.Address (lowestAbsent o (g .general) (length m)))
-    (cond (eqb k 7) (Named.Address (lowestProtected o (g .general) p))
-    (cond (leb 8 k && leb k 11) (wordsRead (operandsRead o (g .float) (g .general) m))
+    (cond (eqb k 6) (Named.Address (lowestAbsent o a (length m)))
+    (cond (eqb k 7) (Named.Address (lowestProtected o a p))
+    (cond (leb 8 k && leb k 11) (wordsRead (operandsRead o (g .float) (g .general) m a))
     Named.Nothing)))
 
 -- an order that is stopped by k, or by nothing where k is 0
-abbrev pub explained : ℕ → Order → Registers → List ℕ → ProtectList → Cause
-explained k o g m p = cause (causeNumber k) (namedFor k o g m p)
+abbrev pub explained : ℕ → Order → Registers → List ℕ → ℕ → ProtectList → Cause
+explained k o g m a p = cause (causeNumber k) (namedFor k o g m a p)
 
--- the order at the pointer
+-- the order at the pointer, and where its S begins
 abbrev pub nextOrder : List ℕ → Machine → Order
 nextOrder d x = orderAt d (x .state .registers .status .pointer)
 
+abbrev pub nextAddress : List ℕ → Machine → ℕ
+nextAddress d x = addressOf (nextOrder d x) (x .state .registers .general)
+
 -- the next order, and the stop of the machine's own decision about it
 unfoldable pub whyOf : List ℕ → ProtectList → Machine → Cause
-whyOf d p x = explained (stopIn (verdictOf d p x)) (nextOrder d x) (x .state .registers) (x .memory) p
+whyOf d p x = explained (stopIn (verdictOf d p x)) (nextOrder d x) (x .state .registers) (x .memory) (nextAddress d x) p

@@ -4,4 +4,5 @@ pub mod Words
 pub mod Arithmetic
 pub mod Attempt
 pub mod Cause
+pub mod Unindexed
 pub mod Theorems

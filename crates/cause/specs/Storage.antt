@@ -1,7 +1,6 @@
 -- The addresses of S that checks 6 and 7 refuse (document 01, rows 6 and 7 of the causes; document 02, Job 5).
 use Prim.Native.Nat.{ℕ, zero, suc, _+_, _<_, _≤_}
 use mathlib.Core.Path.{_≡_}
-use mathlib.Core.List.{List}
 use mathlib.Core.Bool.{Bool, true, false, cond}
 use lib.Dec.{leb}
 use Rattle.hexfloat.specs.Answer.{Answer, gives, stops}
@@ -9,7 +8,6 @@ use Rattle.orders.specs.declared.order.Operation.{Operation}
 use Rattle.orders.specs.declared.order.Order.{Order}
 use Rattle.orders.specs.Order.{legalOf, spanOf, storedOf}
 use Rattle.protection.specs.Form.{ProtectList, isProtected}
-use Rattle.machine.specs.Address.{addressOf}
 
 -- the lowest of n addresses from a on that a check refuses, a + n where it refuses none
 unfoldable pub lowest : (ℕ → Bool) → ℕ → ℕ → ℕ
@@ -36,9 +34,9 @@ abbrev pub storedIn : Answer Operation → ℕ
 storedIn (gives op) = storedOf op
 storedIn (stops k) = 0
 
--- the lowest absent address of S, and the lowest protected one
-unfoldable pub lowestAbsent : Order → List ℕ → ℕ → ℕ
-lowestAbsent o n memory = lowest (isAbsent memory) (addressOf o n) (spanIn (legalOf o))
+-- the lowest absent address of S, which begins at a, and the lowest protected one
+unfoldable pub lowestAbsent : Order → ℕ → ℕ → ℕ
+lowestAbsent o a memory = lowest (isAbsent memory) a (spanIn (legalOf o))
 
-unfoldable pub lowestProtected : Order → List ℕ → ProtectList → ℕ
-lowestProtected o n p = lowest (isProtected p) (addressOf o n) (storedIn (legalOf o))
+unfoldable pub lowestProtected : Order → ℕ → ProtectList → ℕ
+lowestProtected o a p = lowest (isProtected p) a (storedIn (legalOf o))

@@ -8,10 +8,10 @@ use Rattle.hexfloat.specs.Answer.{gives}
 use Rattle.orders.specs.declared.order.Operation.{Operation}
 use Rattle.orders.specs.declared.order.Order.{Order}
 use Rattle.orders.specs.Order.{legalOf, spanOf, storedOf}
+use Rattle.orders.specs.Unindexed.{NoIndex}
 use Rattle.protection.specs.Form.{ProtectList, isProtected}
 use Rattle.protection.specs.Theorems.{Alike}
 use Rattle.machine.specs.declared.state.Registers.{Registers}
-use Rattle.machine.specs.Address.{addressOf}
 use Rattle.machine.specs.Effect.{effectOf}
 use Rattle.machine.specs.Machine.{Machine}
 use Rattle.machine.specs.Operand.{floatOperand, secondOperand}
@@ -20,9 +20,10 @@ use Rattle.cause.specs.declared.cell.Cell.{Cell}
 use Rattle.cause.specs.declared.naming.Cause.{Cause}
 use Rattle.cause.specs.declared.naming.Named.{Named}
 use Rattle.cause.specs.Arithmetic.{stopIn, stopBy}
-use Rattle.cause.specs.Cause.{valuesOf, causeNumber, nextOrder, whyOf}
+use Rattle.cause.specs.Cause.{valuesOf, causeNumber, nextOrder, nextAddress, whyOf}
 use Rattle.cause.specs.Cell.{breaks, IsFirstCell}
 use Rattle.cause.specs.Storage.{IsLowest, isAbsent}
+use Rattle.cause.specs.Unindexed.{unindexedWhy}
 use Rattle.cause.specs.Words.{arithmeticOperands, wordsNamed}
 
 -- a cell is named, the first that breaks check 5
@@ -31,13 +32,13 @@ pub record NamesCell (o : Order) (n : Named) : Type 0 where
   pub named : n ≡ Named.Cell cell
   pub first : IsFirstCell (breaks o) cell
 
--- an address is named, the lowest that a check refuses among the halfwords of S that it looks at
-pub record NamesAddress (refuses : ℕ → Bool) (halfwords : Operation → ℕ) (o : Order) (general : List ℕ) (n : Named) : Type 0 where
+-- an address is named, the lowest that a check refuses among the halfwords of S, from a on, that it looks at
+pub record NamesAddress (refuses : ℕ → Bool) (halfwords : Operation → ℕ) (o : Order) (a : ℕ) (n : Named) : Type 0 where
   pub operation : Operation
   pub legal : legalOf o ≡ gives operation
   pub address : ℕ
   pub named : n ≡ Named.Address address
-  pub lowest : IsLowest refuses (addressOf o general) (halfwords operation) address
+  pub lowest : IsLowest refuses a (halfwords operation) address
 
 -- the number is the step's where that is 1 to 11, else 18; what stands beside it is a cause of it; and beside 1 to 4 and 18 there is nothing
 pub record TrueCause (d : List ℕ) (p : ProtectList) (x : Machine) (w : Cause) : Type 0 where
@@ -45,22 +46,24 @@ pub record TrueCause (d : List ℕ) (p : ProtectList) (x : Machine) (w : Cause) 
   pub listed : (w .number ≡ 18 → ⊥) → (1 ≤ w .number) × (w .number ≤ 11)
   pub nothing : (5 ≤ w .number → w .number ≤ 11 → ⊥) → w .named ≡ Named.Nothing
   pub cell : w .number ≡ 5 → NamesCell (nextOrder d x) (w .named)
-  pub absent : w .number ≡ 6 → NamesAddress (isAbsent (length (x .memory))) spanOf (nextOrder d x) (x .state .registers .general) (w .named)
-  pub protected : w .number ≡ 7 → NamesAddress (isProtected p) storedOf (nextOrder d x) (x .state .registers .general) (w .named)
+  pub absent : w .number ≡ 6 → NamesAddress (isAbsent (length (x .memory))) spanOf (nextOrder d x) (nextAddress d x) (w .named)
+  pub protected : w .number ≡ 7 → NamesAddress (isProtected p) storedOf (nextOrder d x) (nextAddress d x) (w .named)
   pub words : 8 ≤ w .number → w .number ≤ 11 → stopBy (nextOrder d x) (x .state .registers .status .mask) (valuesOf (w .named)) ≡ w .number
 
--- the words that a legal order's arithmetic reads in a machine with these registers and this memory
-abbrev pub wordsIn : Operation → Order → Registers → List ℕ → List ℕ
-wordsIn op o g m =
-    valuesOf (wordsNamed (arithmeticOperands (op .verb)) (op .width) (floatOperand (op .width) (g .float) (o .r1)) (secondOperand (op .place) (op .width) o (g .float) (g .general) m))
+-- the words that a legal order's arithmetic reads in a machine with these registers and this memory, where S is at a
+abbrev pub wordsIn : Operation → Order → Registers → List ℕ → ℕ → List ℕ
+wordsIn op o g m a =
+    valuesOf (wordsNamed (arithmeticOperands (op .verb)) (op .width) (floatOperand (op .width) (g .float) (o .r1)) (secondOperand (op .place) (op .width) o (g .float) (g .general) m a))
 
 -- what the arithmetic of a legal order answers in one machine, it answers in any other that agrees with it on the words and the mask
 abbrev pub SameStop : Operation → Order → Type 0
 SameStop op o =
-    (g h : Registers) (m n : List ℕ) → wordsIn op o g m ≡ wordsIn op o h n → g .status .mask ≡ h .status .mask → stopIn (effectOf op o g m) ≡ stopIn (effectOf op o h n)
+    (g h : Registers) (m n : List ℕ) (a b : ℕ) → wordsIn op o g m a ≡ wordsIn op o h n b → g .status .mask ≡ h .status .mask → stopIn (effectOf op o g m a) ≡ stopIn (effectOf op o h n b)
 
 pub record Theorems : Type 0 where
   pub true-cause : (d : List ℕ) (p : ProtectList) (x : Machine) → TrueCause d p x (whyOf d p x)
   pub same-stop : (op : Operation) (o : Order) → legalOf o ≡ gives op → SameStop op o
   -- over protect lists that say the same of memory's halfwords the answer is the same (document 02, Job 6)
   pub same-cause : (d : List ℕ) (p q : ProtectList) (x : Machine) → Alike (length (x .memory)) p q → whyOf d p x ≡ whyOf d q x
+  -- where r2 is 0 in a next order with a storage operand, the answer is what it was before such orders were indexed (document 02, Job 7)
+  pub unindexed : (d : List ℕ) (p : ProtectList) (x : Machine) → NoIndex (nextOrder d x) → whyOf d p x ≡ unindexedWhy d p x

@@ -1,6 +1,6 @@
 // The stop of an order's own arithmetic, found by a step of a machine that is made for it: the order with
-// its S at address 0 and the second operand there, the registers and the mask. The code of a step stands
-// once in a program, and a second place that calls the arithmetic would slow down every step.
+// its S at address 0 and the second operand there, the float registers and the mask. The code of a step
+// stands once in a program, and a second place that calls the arithmetic would slow down every step.
 use hexfloat::Words;
 use machine::Registers;
 use machine::State;
@@ -22,15 +22,13 @@ fn halfwords(b: Words) -> [u16; 4]
 }
 
 // The number that the step answers.
-pub fn attempt(o: Order, second: Words, registers: Registers) -> u8
-    ensures { λ r. ⌜ r ≡ stepped (attemptDeck o) attemptProtect (attemptMachine registers second) .stop ⌝ }
+pub fn attempt(o: Order, second: Words, float: [u32; 8], mask: u8) -> u8
+    ensures { λ r. ⌜ r ≡ stepped (attemptDeck o) attemptProtect (attemptMachine float mask second) .stop ⌝ }
 {
-    let float = registers.float;
-    let general = registers.general;
-    let start = registers.status;
+    let general = [0; 8]; // no index
     let status = Status {
         condition: 0,
-        mask: start.mask,
+        mask,
         pointer: 0,
     };
     let registers = Registers {

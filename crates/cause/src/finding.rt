@@ -20,6 +20,7 @@ use orders::stored;
 ghost use mathlib.Core.Path.{_≡_};
 ghost use Prim.Native.Nat.{_≤_};
 ghost use Rattle.protection.specs.Bits.{bitwise};
+ghost use Rattle.machine.specs.Address.{addressOf};
 ghost use Rattle.machine.specs.Decide.{accessed, judgedAt};
 ghost use Rattle.machine.specs.Machine.{machine};
 ghost use Rattle.cause.specs.Attempt.{Accessible};
@@ -40,7 +41,7 @@ fn alone(number: u8) -> Cause
 // Checks 6 and 7 of a legal order, and 8 to 11, for which it is tried.
 fn access(op: Operation, o: Order, registers: Registers, memory: &[u16], protect: &[u8]) -> Cause
     requires { ⌜ Accessible op o registers ⌝ }
-    ensures { λ r. ⌜ r ≡ explained (stopIn (accessed o registers (bitwise (now (protect .entry))) (now (memory .entry)) op)) o registers (now (memory .entry)) (bitwise (now (protect .entry))) ⌝ }
+    ensures { λ r. ⌜ r ≡ explained (stopIn (accessed o registers (bitwise (now (protect .entry))) (now (memory .entry)) (addressOf o (registers .general)) op)) o registers (now (memory .entry)) (addressOf o (registers .general)) (bitwise (now (protect .entry))) ⌝ }
 {
     let float = registers.float;
     let general = registers.general;
@@ -60,7 +61,8 @@ fn access(op: Operation, o: Order, registers: Registers, memory: &[u16], protect
             named: Named::Address(a),
         };
     }
-    let number = attempt(o, q.second, registers);
+    let status = registers.status;
+    let number = attempt(o, q.second, float, status.mask);
     if number == 0 {
         return alone(18); // taken
     }
@@ -78,7 +80,7 @@ fn examine(
     journal: usize,
 ) -> Cause
     requires { ⌜ registers .status .mask ≤ 1 ⌝ }
-    ensures { λ r. ⌜ r ≡ explained (stopIn (judgedAt o registers used (bitwise (now (protect .entry))) (now (memory .entry)) journal)) o registers (now (memory .entry)) (bitwise (now (protect .entry))) ⌝ }
+    ensures { λ r. ⌜ r ≡ explained (stopIn (judgedAt o registers used (bitwise (now (protect .entry))) (now (memory .entry)) journal)) o registers (now (memory .entry)) (addressOf o (registers .general)) (bitwise (now (protect .entry))) ⌝ }
 {
     let checked = legal(o);
     let Legality::Legal(op) = checked else {

@@ -20,7 +20,7 @@ module _ (d : List ℕ) (p : ProtectList) (none : NoIndexIn d) where
   Any x = Unit {0}
 
   verdict-unindexed : (x : Machine) → Any x → verdictOf d p x ≡ unindexedVerdict d p x
-  verdict-unindexed x h = decided-unindexed d p (x .state .registers) (x .state .used) (x .memory) (length (x .journal)) none
+  verdict-unindexed x h = decided-unindexed d p (x .state .registers) (x .state .used) (x .memory) (length (x .journal)) (none (x .state .registers .status .pointer))
 
   call-unindexed : (c : Call) (x : Machine) → Any x → called d p c x ≡ unindexedCalled d p c x
   unfolding called unindexedCalled stepped ran

@@ -8,12 +8,13 @@ use native.Mathlib.Omega.{arith}
 use lib.ListN.{length, getD}
 use lib.Dec.{eqb, leb, ltb}
 use borrow.Author.Tests.{eq-eqb, eqb-true, eqb-false, leb-true, le-leb, lt-leb, ltb-true, ne-eqb}
+use Rattle.hexfloat.proofs.Answers.{both}
 use Rattle.hexfloat.specs.Answer.{gives, stops, provided}
 use Rattle.decktext.specs.Text.{same}
 use Rattle.decktext.specs.Value.{all, isDigit, isHexadecimal, digitOf, markedDigit, numberFrom, plain, decimalOf, protectOf, wordOf}
 use Rattle.decktext.specs.Walk.{digitIn, numberIn}
 use Rattle.decktext.proofs.Digits.{decimal-digit, hexadecimal-digit, decimal-byte, all-same, word-below}
-use Rattle.decktext.proofs.Same.{and-true, same-length, single}
+use Rattle.decktext.proofs.Same.{same-length, single}
 
 -- a number has at least n before its digits
 pub number-grows : (v : List ℕ) (n : ℕ) → n * 10 ^ length v ≤ numberFrom 10 n v
@@ -29,7 +30,7 @@ number-grows (b ∷ v) n =
 big : (b : ℕ) (v : List ℕ) → isDigit b ≡ true → eqb b 48 ≡ false → 5 ≤ length v → 65535 < numberFrom 10 0 (b ∷ v)
 unfolding numberFrom
 big b v d z l =
-    let a = and-true (leb 48 b) (leb b 57) d in
+    let a = both (leb 48 b) (leb b 57) d in
     let h = leb-true 48 b (a .0) in
     let ne = eqb-false b 48 z in
     let one : 1 ≤ 0 * 10 + digitOf b = rw (a .1) (above h ne) in

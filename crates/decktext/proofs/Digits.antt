@@ -9,10 +9,11 @@ use native.Mathlib.Omega.{arith}
 use lib.ListN.{length, getD, drop, drop-of-length-le}
 use lib.Dec.{leb}
 use borrow.Author.Tests.{leb-true, leb-false, le-leb, lt-leb, lt-ltb, le-ltb, ltb-true}
+use Rattle.hexfloat.proofs.Answers.{both}
 use Rattle.hexfloat.specs.Answer.{gives, stops}
 use Rattle.decktext.specs.Value.{all, isDigit, isHexadecimal, digitOf, markedDigit, numberFrom}
 use Rattle.decktext.specs.Walk.{digitIn, numberIn}
-use Rattle.decktext.proofs.Same.{and-true, next}
+use Rattle.decktext.proofs.Same.{next}
 
 -- ---- a digit
 
@@ -64,7 +65,7 @@ hexadecimal-digit b = hexadecimal-by b (marked b)
 
 decimal-byte-by : (b : ℕ) → Marked b → markedDigit b < 10 → b ≡ 48 + markedDigit b
 decimal-byte-by b (decimal d h l) m =
-    let a = and-true (leb 48 b) (leb b 57) d in
+    let a = both (leb 48 b) (leb b 57) d in
     let low = leb-true 48 b (a .0) in
     rw (h, a .1) (omega arith)
 decimal-byte-by b (letter d h l g) m = let k : digitOf b < 10 = rw h at m in absurd (omega arith)
@@ -95,7 +96,7 @@ below : (base : ℕ) (v : List ℕ) (n : ℕ) → base ≤ 16 → all (digitIn b
 unfolding all numberFrom
 below base [] n s h = rw (pow-zero base, mul-one) (omega arith)
 below base (b ∷ v) n s h =
-    let a = and-true (digitIn base b) (all (digitIn base) v) h in
+    let a = both (digitIn base b) (all (digitIn base) v) h in
     let l = ltb-true (markedDigit b) base (a .0) in
     let e = value b (lt-of-lt-of-le l s) in
     let k : suc (n * base + digitOf b) ≤ suc n * base = rw (← e) (more n (markedDigit b) base l) in

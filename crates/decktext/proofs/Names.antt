@@ -8,11 +8,12 @@ use native.Mathlib.Omega.{arith}
 use lib.ListN.{length, getD}
 use lib.Dec.{eqb, leb, ltb}
 use borrow.Author.Tests.{eqb-true, eqb-false, leb-true, ltb-true, lt-ltb}
+use Rattle.hexfloat.proofs.Answers.{both}
 use Rattle.hexfloat.specs.Answer.{stops}
 use Rattle.decktext.specs.Text.{same}
 use Rattle.decktext.specs.Value.{mnemonics, codeAmong, mnemonicCode}
 use Rattle.decktext.specs.Key.{bytesFrom, nameKey, codeAmongKeys, codeByKey}
-use Rattle.decktext.proofs.Same.{and-true, same-refl, same-false, same-length}
+use Rattle.decktext.proofs.Same.{same-refl, same-false, same-length}
 
 -- all below 256
 abbrev allBytes : List ℕ → Bool
@@ -29,8 +30,8 @@ bytes-inj [] [] n k a b l e = record { numbers = e; names = refl }
 bytes-inj [] (y ∷ w) n k a b l e = absurd (omega arith)
 bytes-inj (x ∷ v) [] n k a b l e = absurd (omega arith)
 bytes-inj (x ∷ v) (y ∷ w) n k a b l e =
-    let p = and-true (ltb x 256) (allBytes v) a in
-    let q = and-true (ltb y 256) (allBytes w) b in
+    let p = both (ltb x 256) (allBytes v) a in
+    let q = both (ltb y 256) (allBytes w) b in
     let s : length v ≡ length w = omega arith in
     let r = bytes-inj v w (n * 256 + x) (k * 256 + y) (p .1) (q .1) s e in
     let f = ltb-true x 256 (p .0) in
@@ -70,8 +71,8 @@ among : (ms : List (List ℕ)) (n : ℕ) (v : List ℕ) → Short v → allShort
 unfolding codeAmong codeAmongKeys
 among [] n v s h = refl
 among (m ∷ ms) n v s h =
-    let p = and-true (allBytes m && leb (length m) 4) (allShort ms) h in
-    let q = and-true (allBytes m) (leb (length m) 4) (p .0) in
+    let p = both (allBytes m && leb (length m) 4) (allShort ms) h in
+    let q = both (allBytes m) (leb (length m) 4) (p .0) in
     rw (same-key v m s (record { bytes = q .0; few = leb-true _ 4 (q .1) }), among ms (n + 1) v s (p .1))
 
 bytes-of : (v : List ℕ) → ((i : ℕ) → i < length v → getD v i 0 < 256) → allBytes v ≡ true
@@ -87,8 +88,8 @@ long-among : (ms : List (List ℕ)) (n : ℕ) (v : List ℕ) → 4 < length v �
 unfolding codeAmong
 long-among [] n v l h = refl
 long-among (m ∷ ms) n v l h =
-    let p = and-true (allBytes m && leb (length m) 4) (allShort ms) h in
-    let q = leb-true (length m) 4 (and-true (allBytes m) (leb (length m) 4) (p .0) .1) in
+    let p = both (allBytes m && leb (length m) 4) (allShort ms) h in
+    let q = leb-true (length m) 4 (both (allBytes m) (leb (length m) 4) (p .0) .1) in
     rw (same-length v m (λ e. omega arith)) (long-among ms (n + 1) v l (p .1))
 
 pub code-long : (v : List ℕ) → 4 < length v → mnemonicCode v ≡ stops 16

@@ -9,6 +9,7 @@ use lib.Seq.{drop-cons}
 use lib.ListN.{length, getD, drop, drop-of-length-le}
 use lib.Dec.{eqb}
 use borrow.Author.Tests.{eqb-true, eq-eqb}
+use Rattle.hexfloat.proofs.Answers.{both}
 use Rattle.decktext.specs.Text.{same}
 
 pub same-refl : (v : List ℕ) → same v v ≡ true
@@ -16,18 +17,13 @@ unfolding same
 same-refl [] = refl
 same-refl (x ∷ v) = rw (eq-eqb x x refl, same-refl v)
 
-pub and-true : (p q : Bool) → (p && q) ≡ true → (p ≡ true) × (q ≡ true)
-and-true true true h = (refl, refl)
-and-true true false h = let z : _≡_ {A = ℕ} 0 1 = cc in absurd (omega arith)
-and-true false q h = let z : _≡_ {A = ℕ} 0 1 = cc in absurd (omega arith)
-
 pub same-true : (v w : List ℕ) → same v w ≡ true → v ≡ w
 unfolding same
 same-true [] [] h = refl
 same-true [] (y ∷ w) h = let z : _≡_ {A = ℕ} 0 1 = cc in absurd (omega arith)
 same-true (x ∷ v) [] h = let z : _≡_ {A = ℕ} 0 1 = cc in absurd (omega arith)
 same-true (x ∷ v) (y ∷ w) h =
-    let a = and-true (eqb x y) (same v w) h in
+    let a = both (eqb x y) (same v w) h in
     let p = eqb-true x y (a .0) in
     let q = same-true v w (a .1) in
     cc

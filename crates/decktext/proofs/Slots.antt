@@ -8,10 +8,11 @@ use native.Mathlib.Omega.{arith}
 use lib.Dec.{eqb}
 use lib.ListN.{length, getD}
 use borrow.Author.Tests.{eqb-true, eqb-false}
+use Rattle.hexfloat.proofs.Answers.{both}
 use Rattle.hexfloat.specs.Answer.{Answer, gives, stops}
 use Rattle.decktext.specs.Value.{mnemonics}
 use Rattle.decktext.specs.Key.{nameKey, codeAmongKeys, codeByKey, slotOf, SlotTable}
-use Rattle.decktext.proofs.Same.{and-true}
+use Rattle.decktext.proofs.Same.{}
 use Rattle.decktext.proofs.Tested.{allBelow, passes}
 
 abbrev answers : Answer ℕ → ℕ → Bool
@@ -58,7 +59,7 @@ module _ (t : List ℕ) (slots : allBelow (right t) 64 ≡ true) (names : stand 
   unfolding stand codeAmongKeys
   absent [] n k s h = refl
   absent (m ∷ ms) n k s h =
-      let q = and-true (eqb (getD t (slotOf (nameKey m)) 0 / 64) (nameKey m)) (stand t ms) s in
+      let q = both (eqb (getD t (slotOf (nameKey m)) 0 / 64) (nameKey m)) (stand t ms) s in
       absent-by m n k (codeAmongKeys ms (n + 1) k) (eqb k (nameKey m)) refl (λ e. h (rw e (eqb-true _ _ (q .0)))) (absent ms (n + 1) k (q .1) h)
 
   entry-by : (k : ℕ) (b : Bool) → eqb (getD t (slotOf k) 0 / 64) k ≡ b → cond b (gives (getD t (slotOf k) 0 % 64)) (stops 16) ≡ codeByKey k

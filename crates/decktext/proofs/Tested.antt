@@ -5,7 +5,8 @@ use mathlib.Core.Bool.{Bool, true, false, _&&_}
 use native.Mathlib.Omega.{arith}
 use lib.Dec.{eqb}
 use borrow.Author.Tests.{eqb-true, eqb-false}
-use Rattle.decktext.proofs.Same.{and-true}
+use Rattle.hexfloat.proofs.Answers.{both}
+use Rattle.decktext.proofs.Same.{}
 
 unfoldable pub allBelow : (ℕ → Bool) → ℕ → Bool
 allBelow f zero = true
@@ -19,5 +20,5 @@ pub passes : (f : ℕ → Bool) (n k : ℕ) → allBelow f n ≡ true → k < n 
 unfolding allBelow
 passes f zero k t l = absurd (omega arith)
 passes f (suc n) k t l =
-    let a = and-true (f n) (allBelow f n) t in
+    let a = both (f n) (allBelow f n) t in
     last-or-before f n k (eqb k n) refl (a .0) (passes f n k (a .1)) l

@@ -1,7 +1,7 @@
 -- Answers taken apart: what an answer that gives something says of the checks before it.
 use Prim.Native.Nat.{ℕ, _≤_}
 use mathlib.Core.Path.{_≡_, refl}
-use mathlib.Core.Bool.{Bool, true, false, cond}
+use mathlib.Core.Bool.{Bool, true, false, cond, _&&_}
 use lib.Dec.{eqb}
 use native.Mathlib.Omega.{arith}
 use borrow.Author.Tests.{eqb-true, eqb-false}
@@ -16,6 +16,11 @@ never h = let z : _≡_ {A = ℕ} 0 1 = cc in absurd (omega arith)
 
 pub stops-inj : {A : Type 0} {n m : ℕ} → _≡_ {A = Answer A} (stops n) (stops m) → n ≡ m
 stops-inj h = cc
+
+-- two tests that both pass
+pub both : (a b : Bool) → (a && b) ≡ true → (a ≡ true) × (b ≡ true)
+both true b h = (refl, h)
+both false b h = let z : _≡_ {A = Bool} false true = h in absurd (let y : _≡_ {A = ℕ} 0 1 = cc in omega arith)
 
 pub provided-gives : {A : Type 0} {x : A} (ok : Bool) (n : ℕ) (rest : Answer A) → provided ok n rest ≡ gives x → (ok ≡ true) × (rest ≡ gives x)
 provided-gives true n rest h = (refl, h)

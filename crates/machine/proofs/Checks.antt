@@ -6,14 +6,11 @@ use lib.Dec.{eqb, leb}
 use native.Mathlib.Omega.{arith}
 use borrow.Author.Tests.{eqb-true, eqb-false, leb-true, le-leb, ne-eqb}
 use Rattle.protection.specs.Form.{ProtectList, covers}
+use Rattle.hexfloat.proofs.Answers.{both}
 use Rattle.machine.specs.declared.state.Status.{Status}
 use Rattle.machine.specs.Check.{deckSized, buffersSized, stateFormed, present}
 use Rattle.machine.specs.Decide.{heldStop, entryStop}
 use Rattle.machine.specs.Status.{conditionFormed, statusFormed, Packable}
-
-pub both : (a b : Bool) → (a && b) ≡ true → (a ≡ true) × (b ≡ true)
-both true b h = (refl, h)
-both false b h = let z : _≡_ {A = Bool} false true = h in absurd (let y : _≡_ {A = ℕ} 0 1 = cc in omega arith)
 
 -- checks 2 and 3
 pub record Held (p : ProtectList) (s : Status) (used memory journal : ℕ) : Type 0 where

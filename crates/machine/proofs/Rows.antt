@@ -1,19 +1,18 @@
--- What holds of each row of the table of orders: a test that is computed over the rows, and what it says of the row of a code.
-use Prim.Native.Nat.{ℕ, _+_, _≤_}
-use mathlib.Core.Path.{_≡_, refl, subst}
-use mathlib.Core.Bool.{Bool, true, false, cond, _&&_}
-use mathlib.Core.List.{List, [], _∷_}
-use lib.Dec.{eqb, leb}
+-- What holds of each row of the table of orders, by a test that is computed over the rows.
+use Prim.Native.Nat.{ℕ, _≤_}
+use mathlib.Core.Path.{_≡_, refl}
+use mathlib.Core.Bool.{Bool, true, _&&_}
+use lib.Dec.{leb}
 use native.Mathlib.Omega.{arith}
 use borrow.Author.Tests.{leb-true}
 use Rattle.hexfloat.specs.Answer.{gives}
 use Rattle.orders.specs.declared.order.Operation.{Operation}
 use Rattle.orders.specs.declared.order.Order.{Order}
 use Rattle.orders.specs.declared.order.Verb.{Verb}
-use Rattle.orders.specs.Order.{rows, rowAmong, operationOf, withinLimits, legalOf, spanOf, storedOf}
-use Rattle.hexfloat.proofs.Answers.{gives-inj, never}
+use Rattle.orders.specs.Order.{rows, withinLimits, legalOf, spanOf, storedOf}
+use Rattle.hexfloat.proofs.Answers.{both}
 use Rattle.orders.proofs.Passing.{legal-row}
-use Rattle.machine.proofs.Checks.{both}
+use Rattle.orders.proofs.Table.{allRows, row-passes}
 
 -- UM alone writes r2 into the mask
 unfoldable pub maskFits : Verb → ℕ → Bool
@@ -37,26 +36,8 @@ maskFits Verb.Multiply r = true
 unfoldable fitting : Operation → Bool
 fitting op = leb (op .r1) 7 && (leb (op .r2) 7 && (leb (storedOf op) (spanOf op) && (leb (spanOf op) 4 && maskFits (op .verb) (op .r2))))
 
--- of some rows, whatever code the first of them has
-unfoldable allFit : List Operation → Bool
-allFit [] = true
-allFit (op ∷ ops) = fitting op && allFit ops
-
-among-fits : (ops : List Operation) (k n : ℕ) (op : Operation) → allFit ops ≡ true → rowAmong ops k n ≡ gives op → fitting op ≡ true
-unfolding rowAmong allFit
-among-fits [] k n op f h = never h
-among-fits (x ∷ xs) k n op f h =
-    let fits = both (fitting x) (allFit xs) f in
-    cases (eqb n k) (fits .0) (among-fits xs (k + 1) n op (fits .1)) h
-  where
-    cases :
-        (b : Bool) → fitting x ≡ true → (rowAmong xs (k + 1) n ≡ gives op → fitting op ≡ true) →
-        cond b (gives x) (rowAmong xs (k + 1) n) ≡ gives op → fitting op ≡ true
-    cases true first rest e = subst (λ (y : Operation). fitting y ≡ true) (gives-inj e) first
-    cases false first rest e = rest e
-
-rows-fit : allFit rows ≡ true
-unfolding allFit fitting maskFits
+rows-fit : allRows fitting rows ≡ true
+unfolding allRows fitting maskFits
 rows-fit = refl
 
 -- of an operation that check 5 lets pass, with its order
@@ -91,7 +72,4 @@ passed op o f w =
     }
 
 pub legal-passed : (o : Order) (op : Operation) → legalOf o ≡ gives op → Passed op o
-unfolding operationOf
-legal-passed o op h =
-    let q = legal-row o op h in
-    passed op o (among-fits rows 1 (o .code) op rows-fit (q .0)) (q .1)
+legal-passed o op h = let q = legal-row o op h in passed op o (row-passes fitting rows-fit (o .code) op (q .0)) (q .1)

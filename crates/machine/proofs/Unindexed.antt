@@ -1,5 +1,5 @@
 -- A step of an order that names no index is decided as it was before storage orders were indexed.
-use Prim.Native.Nat.{ℕ, _/_, _≤_}
+use Prim.Native.Nat.{ℕ, _/_, _<_, _≤_}
 use mathlib.Core.Path.{_≡_, refl, ap, _∙_}
 use mathlib.Core.List.{List}
 use mathlib.Core.Bool.{not}
@@ -27,7 +27,7 @@ use Rattle.machine.specs.Check.{present, anyProtected}
 use Rattle.machine.specs.Decide.{entryStop, accessed, judged, judgedAt, decided}
 use Rattle.machine.specs.Effect.{performed, effectOf}
 use Rattle.machine.specs.Operand.{secondOperand}
-use Rattle.machine.specs.Unindexed.{unindexedJudged, unindexedDecided, NoIndexIn}
+use Rattle.machine.specs.Unindexed.{unindexedJudged, unindexedDecided}
 use Rattle.machine.proofs.Addresses.{address-plain}
 use Rattle.machine.proofs.Placed.{some}
 use Rattle.machine.proofs.Rows.{legal-passed}
@@ -100,11 +100,11 @@ module _ (o : Order) (none : NoIndex o) (g : Registers) (used : ℕ) (p : Protec
       ∙ rw (legal-unindexed o none)
 
 pub decided-unindexed :
-    (d : List ℕ) (p : ProtectList) (g : Registers) (used : ℕ) (m : List ℕ) (journal : ℕ) → NoIndexIn d →
+    (d : List ℕ) (p : ProtectList) (g : Registers) (used : ℕ) (m : List ℕ) (journal : ℕ) → (g .status .pointer < length d / 4 → NoIndex (orderAt d (g .status .pointer))) →
     decided d p g used m journal ≡ unindexedDecided d p g used m journal
 unfolding decided unindexedDecided
 decided-unindexed d p g used m journal none =
     let at = g .status .pointer in
     let o = orderAt d at in
     ap (λ (e : Answer Effect). checked (entryStop (length d) p (g .status) used (length m) journal) e)
-    (provided-same (ltb at (length d / 4)) 4 _ _ (λ t. judged-unindexed o (none at (ltb-true at (length d / 4) t)) g used p m journal))
+    (provided-same (ltb at (length d / 4)) 4 _ _ (λ t. judged-unindexed o (none (ltb-true at (length d / 4) t)) g used p m journal))

@@ -5,15 +5,17 @@ use mathlib.Core.Path.{sym, ap, _∙_}
 use native.Mathlib.Omega.{arith}
 use borrow.Author.Needs.{needs}
 use Rattle.protection.specs.Bits.{bitwise}
+use Rattle.machine.specs.Address.{addressOf}
 use Rattle.machine.specs.Fetch.{saysFetched}
+use Rattle.machine.proofs.Addresses.{address-below}
 use Rattle.machine.proofs.Rows.{legal-passed}
 use Rattle.cause.proofs.Explained.{unread, explain-absent, explain-protected, explain-taken, explain-words}
 use Rattle.cause.proofs.finding.access.Statement.{statement}
 use Rattle.cause.proofs.finding.access.Tie as tie
 
--- what the cell's type says
-small : (c : tie.Start) → c .args .o .at < 65536
-small c = search needs
+-- by what the cell's type says
+small : (c : tie.Start) → addressOf (c .args .o) (c .args .registers .general) < 131071
+small c = address-below (c .args .o) (c .args .registers .general) (search needs)
 
 address-requires : tie.Need-address-requires
 address-requires c κs = search needs
@@ -35,7 +37,7 @@ lowest-absent-requires c κs =
 returns : tie.Need-returns
 returns c =
     let x = c .before .before .before .before .before .before .before .before .before .before .before .before in
-    let absent = unread (x .args .op) (x .args .o) (x .args .registers) (x .args .memory .now) (x .pre .legal) (c .before .before .before .fetch .result) (c .before .before .match .keys2) (c .before .before .before .fetch .ensures) in
+    let absent = unread (x .args .op) (x .args .o) (x .args .registers) (x .args .memory .now) _ (x .pre .legal) (c .before .before .before .fetch .result) (c .before .before .match .keys2) (c .before .before .before .fetch .ensures) in
     rw (c .lowest-absent .ensures, c .before .span .ensures, c .before .before .before .before .before .before .address .ensures) (sym (explain-absent (x .args .op) (x .args .o) (x .args .registers) (bitwise (x .args .protect .now)) (x .args .memory .now) (x .pre) absent))
 
 stored-requires : tie.Need-stored-requires
@@ -68,9 +70,9 @@ alone-requires c κs = search needs
 
 returns-3 : tie.Need-returns-3
 returns-3 c =
-    let x = c .before .before .before .before .before .before .before .before .before .before .before .before .before .before .before .before .before .before in
-    let e = sym (ap saysFetched (c .before .before .before .before .before .before .before .fetched .given .1)) ∙ c .before .before .before .before .before .before .before .before .before .fetch .ensures in
-    let free = rw (c .before .before .before .before .lowest-protected .ensures, c .before .before .before .before .before .stored .ensures, c .before .before .before .before .before .before .before .before .before .before .before .before .address .ensures) at (c .before .before .before .if1 .left) in
+    let x = c .before .before .before .before .before .before .before .before .before .before .before .before .before .before .before .before .before .before .before in
+    let e = sym (ap saysFetched (c .before .before .before .before .before .before .before .before .fetched .given .1)) ∙ c .before .before .before .before .before .before .before .before .before .before .fetch .ensures in
+    let free = rw (c .before .before .before .before .before .lowest-protected .ensures, c .before .before .before .before .before .before .stored .ensures, c .before .before .before .before .before .before .before .before .before .before .before .before .before .address .ensures) at (c .before .before .before .before .if1 .left) in
     c .alone .ensures ∙ sym (explain-taken (x .args .op) (x .args .o) (x .args .registers) (bitwise (x .args .protect .now)) (x .args .memory .now) (x .pre) _ e free (sym (c .before .before .attempt .ensures) ∙ c .before .if2 .taken))
 
 words-read-requires : tie.Need-words-read-requires
@@ -78,9 +80,9 @@ words-read-requires c κs = search needs
 
 returns-4 : tie.Need-returns-4
 returns-4 c =
-    let x = c .before .before .before .before .before .before .before .before .before .before .before .before .before .before .before .before .before .before in
-    let e = sym (ap saysFetched (c .before .before .before .before .before .before .before .fetched .given .1)) ∙ c .before .before .before .before .before .before .before .before .before .fetch .ensures in
-    let free = rw (c .before .before .before .before .lowest-protected .ensures, c .before .before .before .before .before .stored .ensures, c .before .before .before .before .before .before .before .before .before .before .before .before .address .ensures) at (c .before .before .before .if1 .left) in
+    let x = c .before .before .before .before .before .before .before .before .before .before .before .before .before .before .before .before .before .before .before in
+    let e = sym (ap saysFetched (c .before .before .before .before .before .before .before .before .fetched .given .1)) ∙ c .before .before .before .before .before .before .before .before .before .before .fetch .ensures in
+    let free = rw (c .before .before .before .before .before .lowest-protected .ensures, c .before .before .before .before .before .before .stored .ensures, c .before .before .before .before .before .before .before .before .before .before .before .before .before .address .ensures) at (c .before .before .before .before .if1 .left) in
     rw (c .before .before .attempt .ensures, c .words-read .ensures) (sym (explain-words (x .args .op) (x .args .o) (x .args .registers) (bitwise (x .args .protect .now)) (x .args .memory .now) (x .pre) _ e free (rw (← c .before .before .attempt .ensures) (search needs))))
 
 pub access-spec : {M : Type 1} → statement M

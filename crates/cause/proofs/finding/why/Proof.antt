@@ -31,7 +31,7 @@ returns c =
     let a = c .before .before .before .before .before .before .before .before .before .before .args in
     let three = entry-number (bitwise (a .protect .now)) (a .s .registers .status) (a .s .used) (length (a .memory .now)) (length (a .journal .now)) (length (a .deck .now)) in
     let few : n .result ≤ 4 = omega (arith, n .ensures, c .before .before .before .entry .ensures, three) in
-    rw (c .alone .ensures, ← c .before .before .before .entry .ensures, ← n .ensures, ne-eqb (n .result) 0 (c .before .if1 .taken)) (sym (explain-early (n .result) _ _ _ _ (search needs) few))
+    rw (c .alone .ensures, ← c .before .before .before .entry .ensures, ← n .ensures, ne-eqb (n .result) 0 (c .before .if1 .taken)) (sym (explain-early (n .result) _ _ _ _ _ (search needs) few))
 
 cast-if2 : tie.Need-cast-if2
 cast-if2 c = search needs
