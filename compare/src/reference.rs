@@ -260,8 +260,8 @@ fn to_float(w: u32) -> (u32, u8) {
 fn form(code: u16) -> Option<(u16, u16, bool, usize)> {
     Some(match code {
         1 | 4 | 5 | 7 | 9 | 10 | 11 | 13 | 23 | 25 | 27 | 29 | 31 | 33 => (7, 7, false, 0),
-        2 | 6 | 12 | 15 | 17 | 18 | 24 | 26 | 32 => (7, 0, true, 2),
-        3 | 8 | 14 | 16 | 28 | 30 | 34 => (7, 0, true, 4),
+        2 | 6 | 12 | 15 | 17 | 18 | 24 | 26 | 32 => (7, 7, true, 2),
+        3 | 8 | 14 | 16 | 28 | 30 | 34 => (7, 7, true, 4),
         19 => (0, 1, false, 0),
         20 | 21 => (7, 0, true, 0),
         22 => (0, 0, false, 0),
@@ -314,6 +314,15 @@ fn put(memory: &mut [u16], at: usize, w: u32) {
     memory[at + 1] = w as u16;
 }
 
+/// Where the storage operand is (document 02, Job 7): r2 names an index register, unless it is 0.
+fn address(s: &State, cells: [u16; 4]) -> usize {
+    let index = match cells[2] {
+        0 => 0,
+        r => s.general[r as usize] & 0xffff,
+    };
+    cells[3] as usize + index as usize
+}
+
 /// One bit a halfword, lowest bit first.
 fn protected(list: &[u8], a: usize) -> bool {
     list[a / 8] & 1 << (a % 8) != 0
@@ -340,7 +349,7 @@ fn entry(s: &State, deck: usize, memory: usize, protect: usize, journal: usize) 
 #[inline]
 fn effect(s: &State, cells: [u16; 4], memory: &[u16]) -> Result<Effect, u8> {
     let [code, r1, r2, at] = cells;
-    let (r1, r2, a) = (r1 as usize, r2 as usize, at as usize);
+    let (r1, r2, a) = (r1 as usize, r2 as usize, address(s, cells));
     let next = |change, code| Effect { change, code, mask: s.mask, pointer: s.pointer + 1 };
     let pair = |r: usize| (s.float[r], s.float[(r + 1) % 8]);
     let second_short = || if form(code).unwrap().2 { word(memory, a) } else { s.float[r2] };
@@ -468,7 +477,7 @@ fn decide(s: &State, b: &Buffers) -> Result<Effect, u8> {
         return Err(13);
     }
     let (_, _, _, span) = form(cells[0]).unwrap();
-    let at = cells[3] as usize;
+    let at = address(s, cells);
     if span > 0 && at + span > b.memory.len() {
         return Err(6);
     }
@@ -490,7 +499,7 @@ fn broken_cell(cells: [u16; 4]) -> u32 {
 
 /// The words of the operands that an order with a stop from 8 to 11 reads.
 fn operand_words(s: &State, cells: [u16; 4], memory: &[u16]) -> Vec<u32> {
-    let [code, r1, r2, at] = cells.map(usize::from);
+    let ([code, r1, r2, _], at) = (cells.map(usize::from), address(s, cells));
     let words = if matches!(code, 13 | 14 | 27..=30 | 33 | 34) { 2 } else { 1 };
     let register = |r: usize| (0..words).map(move |k| s.float[(r + k) % 8]);
     let storage = (0..words).map(|k| word(memory, at + 2 * k));
@@ -510,7 +519,7 @@ pub fn why(s: &State, b: &Buffers) -> (u8, Vec<u32>) {
     };
     let p = 4 * s.pointer as usize;
     let cells = [b.deck[p], b.deck[p + 1], b.deck[p + 2], b.deck[p + 3]];
-    let addresses = || (cells[3] as usize..).take(form(cells[0]).unwrap().3);
+    let addresses = || (address(s, cells)..).take(form(cells[0]).unwrap().3);
     let names = match number {
         5 => vec![broken_cell(cells)],
         6 => vec![addresses().find(|a| *a >= b.memory.len()).unwrap() as u32],

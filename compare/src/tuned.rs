@@ -194,10 +194,10 @@ const LIMITS: [(u16, u16, u16, u8, u8); 35] = {
     while k < 35 {
         t[k] = match k {
             1 | 4 | 5 | 7 | 9 | 10 | 11 | 13 | 23 | 25 | 27 | 29 | 31 | 33 => (7, 7, 0, 0, 0),
-            15 | 18 => (7, 0, 65535, 2, 2),
-            16 => (7, 0, 65535, 4, 4),
-            2 | 6 | 12 | 17 | 24 | 26 | 32 => (7, 0, 65535, 2, 0),
-            3 | 8 | 14 | 28 | 30 | 34 => (7, 0, 65535, 4, 0),
+            15 | 18 => (7, 7, 65535, 2, 2),
+            16 => (7, 7, 65535, 4, 4),
+            2 | 6 | 12 | 17 | 24 | 26 | 32 => (7, 7, 65535, 2, 0),
+            3 | 8 | 14 | 28 | 30 | 34 => (7, 7, 65535, 4, 0),
             19 => (0, 1, 0, 0, 0),
             22 => (0, 0, 0, 0, 0),
             _ => (7, 0, 65535, 0, 0),
@@ -255,7 +255,8 @@ pub fn run(st: &mut State, b: &mut Buffers, limit: u32) -> (u32, u8) {
             stop = 13;
             break;
         }
-        let a = at as usize;
+        let (i, j) = ((r1 & 7) as usize, (r2 & 7) as usize);
+        let a = at as usize + if j == 0 { 0 } else { s.general[j] as u16 as usize };
         let span = l.3 as usize;
         if span > 0 && a + span > memory.len() {
             stop = 6;
@@ -265,7 +266,6 @@ pub fn run(st: &mut State, b: &mut Buffers, limit: u32) -> (u32, u8) {
             stop = 7;
             break;
         }
-        let (i, j) = ((r1 & 7) as usize, (r2 & 7) as usize);
         let (cc, mask, next) = (s.code, s.mask, s.pointer + 1);
         let fa = s.float[i];
         let fb = s.float[(i + 1) & 7];
@@ -372,13 +372,13 @@ pub fn run(st: &mut State, b: &mut Buffers, limit: u32) -> (u32, u8) {
             }
             15 | 18 => {
                 let w = if code == 15 { fa } else { s.general[i] };
-                m.record(4, at as u32, word(memory, a), 0);
+                m.record(4, a as u32, word(memory, a), 0);
                 memory[a] = (w >> 16) as u16;
                 memory[a + 1] = w as u16;
                 m.s.pointer = next;
             }
             16 => {
-                m.record(5, at as u32, word(memory, a), word(memory, a + 2));
+                m.record(5, a as u32, word(memory, a), word(memory, a + 2));
                 for (k, x) in [(fa >> 16) as u16, fa as u16, (fb >> 16) as u16, fb as u16].into_iter().enumerate() {
                     memory[a + k] = x;
                 }

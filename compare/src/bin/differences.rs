@@ -22,7 +22,11 @@ fn order(r: &mut Random, orders: u64, memory: u64) -> [u16; 4] {
         _ => r.below(memory + 2) as u16,
     };
     match cells[0] {
-        2 | 3 | 6 | 8 | 12 | 14..=18 | 20 | 21 | 24 | 26 | 28 | 30 | 32 | 34 => (cells[1], cells[3]) = (register, at),
+        20 | 21 => (cells[1], cells[3]) = (register, at),
+        2 | 3 | 6 | 8 | 12 | 14..=18 | 24 | 26 | 28 | 30 | 32 | 34 => {
+            let index = if r.chance(2) { r.below(8) as u16 } else { 0 };
+            (cells[1], cells[2], cells[3]) = (register, index, at);
+        }
         19 => cells[2] = register % 2,
         22 => {}
         _ => (cells[1], cells[2]) = (register, r.below(8) as u16),
@@ -37,8 +41,12 @@ fn state(r: &mut Random) -> State {
     let mut s = State::default();
     for k in 0..8 {
         s.float[k] = r.float();
-        s.general[k] = match r.below(4) {
+        // often an index, of which the upper halfword does not count, near the start of memory or near where a sum would wrap
+        let upper = (r.next() as u32) << 16;
+        s.general[k] = match r.below(6) {
             0 => r.below(4) as u32,
+            1 | 2 => upper | r.below(40) as u32,
+            3 => upper | 65_535 - r.below(40) as u32,
             _ => r.next() as u32,
         };
     }

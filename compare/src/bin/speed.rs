@@ -256,6 +256,10 @@ fn main() {
     let long_compares: Vec<[u16; 4]> = (0..12).map(|k| [7, k % 8, (k + 3) % 8, 0]).collect();
     let moves: Vec<[u16; 4]> =
         (0..12).map(|k| [[2, 15, 3, 16, 17, 18][k as usize % 6], k % 6, 0, k * 4]).collect();
+    // the same through index registers, whose upper halfwords do not count
+    let indexed_moves: Vec<[u16; 4]> = moves.iter().map(|o| [o[0], o[1], 1 + o[1] % 3, o[3]]).collect();
+    let mut indexed = floats(r, 0x80ff_ffff);
+    (indexed.general[1], indexed.general[2], indexed.general[3]) = (0x7fff_0004, 0x8000_0008, 0xffff_000c);
     // what an add puts on is a little more than what a subtract takes off, so that the sums walk slowly, some through zero
     let short_sums: Vec<[u16; 4]> = (0..12).map(|k| [23 + k % 2 * 2, k % 3 * 2, 6 + k % 2, 0]).collect();
     let long_sums: Vec<[u16; 4]> = (0..12).map(|k| [28 + k % 2 * 2, k % 3 * 2, 0, k % 2 * 4]).collect();
@@ -278,6 +282,7 @@ fn main() {
         run("(j) short products", &short_products, near_one, vec![0; 64]),
         run("(k) long products, unnormalised", &long_products, floats(r, 0x800f_ffff), unnormalised),
         run("(l) long compares, unnormalised", &long_compares, floats(r, 0x870f_ffff), vec![0; 64]),
+        run("(m) loads and stores, indexed", &indexed_moves, indexed, words(r, 0xff_ffff)),
     ];
     println!("{:<36} {:>8} {:>8} {:>8} {:>9} {:>9}", "", "proved", "plain", "tuned", "to plain", "to tuned");
     for r in &rows {
