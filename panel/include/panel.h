@@ -46,10 +46,11 @@ typedef struct {
 void panel_fresh(panel_state *state);
 
 /* Takes one step. Returns 0, or the number of the stop (1 to 13); a stop leaves everything as it was.
- * deck: four cells an order (code, r1, r2, at), deck_cells of them. protect: one bit a halfword of memory, set if the
- * halfword is protected: address a is bit a % 8 of byte a / 8, the lowest bit being bit 0. protect_bytes is
- * memory_halfwords / 8 rounded up, and nothing else (2); bits past memory's end may be anything and change no answer.
- * journal: four words a record. */
+ * deck: four cells an order (code, r1, r2, at), deck_cells of them. The storage operand of an order that has one is at
+ * `at`, and r2 from 1 to 7 adds the lower halfword of that general register to it; the sum is not wrapped, so 65,536 and
+ * more are past memory's end (6). protect: one bit a halfword of memory, set if the halfword is protected: address a is
+ * bit a % 8 of byte a / 8, the lowest bit being bit 0. protect_bytes is memory_halfwords / 8 rounded up, and nothing else
+ * (2); bits past memory's end may be anything and change no answer. journal: four words a record. */
 uint8_t panel_step(panel_state *state, const uint16_t *deck, size_t deck_cells, uint16_t *memory, size_t memory_halfwords,
                    const uint8_t *protect, size_t protect_bytes, uint32_t *journal, size_t journal_words);
 
