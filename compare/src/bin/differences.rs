@@ -25,6 +25,8 @@ fn order(r: &mut Random, orders: u64, memory: u64) -> [u16; 4] {
         20 | 21 => (cells[1], cells[3]) = (register, at),
         2 | 3 | 6 | 8 | 12 | 14..=18 | 24 | 26 | 28 | 30 | 32 | 34 => {
             let index = if r.chance(2) { r.below(8) as u16 } else { 0 };
+            // an index leaves it room
+            let at = if index == 0 { at } else { at / 2 };
             (cells[1], cells[2], cells[3]) = (register, index, at);
         }
         19 => cells[2] = register % 2,
@@ -43,10 +45,10 @@ fn state(r: &mut Random) -> State {
         s.float[k] = r.float();
         // often an index, of which the upper halfword does not count, near the start of memory or near where a sum would wrap
         let upper = (r.next() as u32) << 16;
-        s.general[k] = match r.below(6) {
+        s.general[k] = match r.below(10) {
             0 => r.below(4) as u32,
-            1 | 2 => upper | r.below(40) as u32,
-            3 => upper | 65_535 - r.below(40) as u32,
+            1..=6 => upper | r.below(16) as u32,
+            7 => upper | 65_535 - r.below(40) as u32,
             _ => r.next() as u32,
         };
     }

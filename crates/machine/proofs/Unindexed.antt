@@ -16,7 +16,7 @@ use Rattle.orders.specs.declared.order.Order.{Order}
 use Rattle.orders.specs.declared.order.Place.{Place}
 use Rattle.orders.specs.declared.order.Verb.{Verb}
 use Rattle.orders.specs.Order.{legalOf, spanAs, storedAs, isHalt, orderAt}
-use Rattle.orders.specs.Unindexed.{unindexedRow, unindexedLegal, NoIndex}
+use Rattle.orders.specs.Unindexed.{unindexedRow, NoIndex}
 use Rattle.orders.proofs.Passing.{legal-row}
 use Rattle.orders.proofs.Unindexed.{legal-unindexed}
 use Rattle.protection.specs.Form.{ProtectList}

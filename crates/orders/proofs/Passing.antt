@@ -1,7 +1,7 @@
 -- What check 5 says of an order that passes it: the row of its code, and every cell within its limit.
 use mathlib.Core.Path.{_≡_, subst, ap, _∙_}
 use mathlib.Core.Bool.{true}
-use Rattle.hexfloat.specs.Answer.{Answer, gives, provided}
+use Rattle.hexfloat.specs.Answer.{gives, provided}
 use Rattle.hexfloat.proofs.Answers.{gives-inj, provided-gives, then-gives}
 use Rattle.orders.specs.declared.order.Order.{Order}
 use Rattle.orders.specs.declared.order.Operation.{Operation}
