@@ -16,12 +16,12 @@ use Rattle.machine.specs.declared.state.Registers.{Registers}
 use Rattle.machine.specs.declared.verdict.Effect.{Effect}
 use Rattle.machine.specs.Decide.{entryStop, judgedAt, decided}
 use Rattle.machine.specs.Machine.{Machine}
-use Rattle.machine.specs.Step.{verdictOf}
+use Rattle.machine.specs.Step.{nextOrder, nextAddress, verdictOf}
 use Rattle.machine.proofs.Alike.{decided-alike}
 use Rattle.machine.proofs.Checks.{held, entered, entry-number, reach, present-fewer}
 use Rattle.machine.proofs.Rows.{legal-passed}
 use Rattle.cause.specs.Arithmetic.{stopIn}
-use Rattle.cause.specs.Cause.{cause, causeNumber, namedFor, explained, nextOrder, nextAddress, whyOf}
+use Rattle.cause.specs.Cause.{cause, causeNumber, namedFor, explained, whyOf}
 use Rattle.cause.specs.Storage.{lowest, lowestProtected}
 use Rattle.cause.proofs.Reached.{Known, decided-known, stop-known}
 

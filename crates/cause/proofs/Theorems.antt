@@ -16,10 +16,10 @@ use Rattle.machine.specs.Check.{present, anyProtected}
 use Rattle.machine.specs.Fetch.{operandsRead}
 use Rattle.machine.specs.Machine.{Machine}
 use Rattle.machine.specs.Effect.{effectOf}
-use Rattle.machine.specs.Step.{verdictOf}
+use Rattle.machine.specs.Step.{nextOrder, nextAddress, verdictOf}
 use Rattle.cause.specs.declared.naming.Named.{Named}
 use Rattle.cause.specs.Arithmetic.{stopIn, stopBy}
-use Rattle.cause.specs.Cause.{valuesOf, causeNumber, namedFor, nextOrder, nextAddress, whyOf}
+use Rattle.cause.specs.Cause.{valuesOf, causeNumber, namedFor, whyOf}
 use Rattle.cause.specs.Cell.{firstCell, breaks}
 use Rattle.cause.specs.Storage.{isAbsent, lowestAbsent, lowestProtected}
 use Rattle.cause.specs.Theorems.{NamesCell, NamesAddress, TrueCause, wordsIn, Theorems}

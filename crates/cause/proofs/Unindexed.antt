@@ -25,13 +25,13 @@ use Rattle.machine.specs.Check.{present}
 use Rattle.machine.specs.Fetch.{operandsRead}
 use Rattle.machine.specs.Machine.{Machine}
 use Rattle.machine.specs.Operand.{floatOperand, secondOperand}
-use Rattle.machine.specs.Step.{verdictOf}
+use Rattle.machine.specs.Step.{nextOrder, nextAddress, verdictOf}
 use Rattle.machine.proofs.Addresses.{address-plain}
 use Rattle.machine.proofs.Rows.{legal-passed}
 use Rattle.machine.proofs.Unindexed.{decided-unindexed}
 use Rattle.cause.specs.declared.naming.Named.{Named}
 use Rattle.cause.specs.Arithmetic.{stopIn}
-use Rattle.cause.specs.Cause.{cause, causeNumber, namedFor, nextOrder, nextAddress, whyOf}
+use Rattle.cause.specs.Cause.{cause, causeNumber, namedFor, whyOf}
 use Rattle.cause.specs.Cell.{firstCell, breaksRow, breaks}
 use Rattle.cause.specs.Storage.{lowestAbsent, lowestProtected}
 use Rattle.cause.specs.Unindexed.{unindexedNamed, unindexedExplained, unindexedWhy}

@@ -5,13 +5,11 @@ use mathlib.Core.Bool.{cond, _&&_}
 use lib.Dec.{eqb, leb}
 use lib.ListN.{length}
 use Rattle.orders.specs.declared.order.Order.{Order}
-use Rattle.orders.specs.Order.{orderAt}
 use Rattle.protection.specs.Form.{ProtectList}
 use Rattle.machine.specs.declared.state.Registers.{Registers}
-use Rattle.machine.specs.Address.{addressOf}
 use Rattle.machine.specs.Fetch.{operandsRead}
 use Rattle.machine.specs.Machine.{Machine}
-use Rattle.machine.specs.Step.{verdictOf}
+use Rattle.machine.specs.Step.{nextOrder, nextAddress, verdictOf}
 use Rattle.cause.specs.declared.naming.Cause.{Cause}
 use Rattle.cause.specs.declared.naming.Named.{Named}
 use Rattle.cause.specs.Arithmetic.{stopIn}
@@ -47,13 +45,6 @@ namedFor k o g m a p =
 -- an order that is stopped by k, or by nothing where k is 0
 abbrev pub explained : ℕ → Order → Registers → List ℕ → ℕ → ProtectList → Cause
 explained k o g m a p = cause (causeNumber k) (namedFor k o g m a p)
-
--- the order at the pointer, and where its S begins
-abbrev pub nextOrder : List ℕ → Machine → Order
-nextOrder d x = orderAt d (x .state .registers .status .pointer)
-
-abbrev pub nextAddress : List ℕ → Machine → ℕ
-nextAddress d x = addressOf (nextOrder d x) (x .state .registers .general)
 
 -- the next order, and the stop of the machine's own decision about it
 unfoldable pub whyOf : List ℕ → ProtectList → Machine → Cause

@@ -15,12 +15,12 @@ use Rattle.machine.specs.declared.state.Registers.{Registers}
 use Rattle.machine.specs.Effect.{effectOf}
 use Rattle.machine.specs.Machine.{Machine}
 use Rattle.machine.specs.Operand.{floatOperand, secondOperand}
-use Rattle.machine.specs.Step.{stepped}
+use Rattle.machine.specs.Step.{nextOrder, nextAddress, stepped}
 use Rattle.cause.specs.declared.cell.Cell.{Cell}
 use Rattle.cause.specs.declared.naming.Cause.{Cause}
 use Rattle.cause.specs.declared.naming.Named.{Named}
 use Rattle.cause.specs.Arithmetic.{stopIn, stopBy}
-use Rattle.cause.specs.Cause.{valuesOf, causeNumber, nextOrder, nextAddress, whyOf}
+use Rattle.cause.specs.Cause.{valuesOf, causeNumber, whyOf}
 use Rattle.cause.specs.Cell.{breaks, IsFirstCell}
 use Rattle.cause.specs.Storage.{IsLowest, isAbsent}
 use Rattle.cause.specs.Unindexed.{unindexedWhy}

@@ -9,10 +9,11 @@ use Rattle.protection.specs.Form.{ProtectList}
 use Rattle.machine.specs.declared.state.Registers.{Registers}
 use Rattle.machine.specs.Machine.{Machine}
 use Rattle.machine.specs.Unindexed.{unindexedVerdict}
+use Rattle.machine.specs.Step.{nextOrder}
 use Rattle.cause.specs.declared.naming.Cause.{Cause}
 use Rattle.cause.specs.declared.naming.Named.{Named}
 use Rattle.cause.specs.Arithmetic.{stopIn}
-use Rattle.cause.specs.Cause.{cause, causeNumber, namedFor, nextOrder}
+use Rattle.cause.specs.Cause.{cause, causeNumber, namedFor}
 use Rattle.cause.specs.Cell.{firstCell, breaksRow}
 
 unfoldable pub unindexedNamed : ℕ → Order → Registers → List ℕ → ProtectList → Named

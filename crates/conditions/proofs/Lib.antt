@@ -1,3 +1,4 @@
+pub mod Absent
 pub mod Calls
 pub mod Counted
 pub mod Entries

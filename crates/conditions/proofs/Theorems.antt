@@ -1,6 +1,7 @@
 -- Conditions 1 and 3 of the machine, proved of its definitions.
 use Rattle.protection.specs.Bits.{bitwise}
 use Rattle.conditions.specs.Theorems.{Theorems}
+use Rattle.conditions.proofs.Absent.{absent-above}
 use Rattle.conditions.proofs.Leaves.{leaves-all}
 use Rattle.conditions.proofs.Numbers.{one-of-the-numbers, zero-is-taken}
 use Rattle.conditions.proofs.Packed.{same-over, as-before}
@@ -25,5 +26,6 @@ theorems = record {
   one-record = one-record;
   same-over = same-over;
   as-before = as-before;
+  absent-above = absent-above;
   unindexed = λ d p x none. unindexed d p none x;
 }

@@ -1,11 +1,14 @@
 -- What is proved of the calls, in the words of conditions 1 and 3 (document 01, 'Journal and back steps'), for every deck d, protect list p in any form,
 -- machine x and list of calls. The proofs are in proofs/Theorems.antt.
-use Prim.Native.Nat.{ℕ, _+_, _-_, _*_, _<_, _≤_}
+use Prim.Native.Nat.{ℕ, _+_, _-_, _*_, _/_, _<_, _≤_}
 use mathlib.Core.Path.{_≡_}
 use mathlib.Core.List.{List, [], _∷_, _++_}
 use mathlib.Core.Bool.{true}
 use lib.ListN.{length, getD, replicate}
 use Rattle.hexfloat.specs.Answer.{gives}
+use Rattle.orders.specs.declared.order.Operation.{Operation}
+use Rattle.orders.specs.declared.order.Place.{Place}
+use Rattle.orders.specs.Order.{legalOf}
 use Rattle.protection.specs.Form.{ProtectList, isProtected}
 use Rattle.protection.specs.Bits.{bitForm, bitwise}
 use Rattle.protection.specs.Bytes.{byteForm, bytewise, unpacked}
@@ -15,8 +18,8 @@ use Rattle.machine.specs.Back.{backed}
 use Rattle.machine.specs.declared.journal.Record.{Record}
 use Rattle.machine.specs.Journal.{recordAt, encoded, decoded, Recordable}
 use Rattle.machine.specs.Machine.{Machine, machine, beforeOf, committed}
-use Rattle.machine.specs.Run.{ran}
-use Rattle.machine.specs.Step.{Outcome, outcome, verdictOf, stepped}
+use Rattle.machine.specs.Run.{entryOf, ran}
+use Rattle.machine.specs.Step.{Outcome, outcome, nextOrder, nextAddress, verdictOf, stepped}
 use Rattle.machine.specs.Unindexed.{NoIndexIn}
 use Rattle.conditions.specs.Trail.{Call, step, back, Entry, entry, Trail, trail, Reply, traced, called, standing, replies, stepsSaid, backsSaid, countSaid, Behind, AllCovered}
 use Rattle.conditions.specs.Unindexed.{unindexedCalled}
@@ -171,5 +174,9 @@ pub record Theorems : Type 0 where
   -- the protect list enters by what it says of memory's halfwords and by nothing else
   pub same-over : (d : List ℕ) (p q : ProtectList) (x : Machine) → Alike (length (x .memory)) p q → SameOver d p q x
   pub as-before : (d p : List ℕ) (x : Machine) → AsBefore d p x
-  -- Indexed storage orders (document 02, Job 7): over a deck in which r2 is 0 in every order with a storage operand all is as it was before
+  -- Indexed storage orders (document 02, Job 7). A sum of 65,536 or more is absent memory and gives 6, where no check before that one stops the step.
+  pub absent-above :
+      (d : List ℕ) (p : ProtectList) (x : Machine) (op : Operation) → entryOf d p x ≡ 0 → x .state .registers .status .pointer < length d / 4 → legalOf (nextOrder d x) ≡ gives op →
+      op .place ≡ Place.Storage → x .state .used < length (x .journal) / 4 → 65536 ≤ nextAddress d x → stepped d p x ≡ outcome x 0 6
+  -- Over a deck in which r2 is 0 in every order with a storage operand all is as it was before
   pub unindexed : (d : List ℕ) (p : ProtectList) (x : Machine) → NoIndexIn d → SameCalls (called d p) (unindexedCalled d p) x

@@ -12,7 +12,7 @@ use Rattle.hexfloat.specs.Answer.{Answer, gives, stops, provided, andThen}
 use Rattle.orders.specs.declared.order.Order.{Order}
 use Rattle.orders.specs.Order.{legalOf}
 use Rattle.protection.specs.Form.{ProtectList, holds}
-use Rattle.hexfloat.proofs.Answers.{gives-inj, never, provided-gives}
+use Rattle.hexfloat.proofs.Answers.{gives-inj, never, provided-gives, cond-by, provided-by, then-by, then-gives}
 use Rattle.decktext.specs.declared.fault.Fault.{Fault}
 use Rattle.decktext.specs.declared.given.Given.{Given as GivenLine}
 use Rattle.decktext.specs.declared.line.Judged.{Judged}
@@ -23,7 +23,7 @@ use Rattle.decktext.specs.Format.{deckHeading, storageHeading, passes, l
 use Rattle.decktext.specs.Read.{Wanted, heading, order, storage, halfword, Progress, Given, headed, ordered, parted, stored, orderFits, halfwordFits, lineAs}
 use Rattle.decktext.specs.Walk.{Storable, valueCount, inPlace, valueAs, orderFromValues, halfwordFromValues, judgedLine, faultOf, saysJudged}
 use Rattle.decktext.proofs.Same.{same-none, same-length}
-use Rattle.decktext.proofs.Answers.{Is16, Only16, and-then-gives, only-provided, only-and-then, only-cond, only-code, only-decimal, only-protect, only-word, protect-small}
+use Rattle.decktext.proofs.Answers.{Is16, Only16, only-code, only-decimal, only-protect, only-word, protect-small}
 use Rattle.decktext.proofs.Parsed.{Kind, parsed, Placed, parsed-only, wrong-count}
 
 -- ---- the values' places
@@ -39,15 +39,15 @@ inner-place : (i last : ℕ) (a : Answer ℕ) (x : ℕ) → inPlace i false last
 inner-place i last a x h e = eqb-false i last (inner-by (eqb i last) a x h) (omega arith)
 
 only-place : (i : ℕ) (ends : Bool) (last : ℕ) (a : Answer ℕ) → Only16 a → Only16 (inPlace i ends last a)
-only-place i true last a o = only-cond Is16 (eqb i last) a (stops 16) o refl
-only-place i false last a o = only-cond Is16 (eqb i last) (stops 16) a refl o
+only-place i true last a o = cond-by Is16 (eqb i last) a (stops 16) o refl
+only-place i false last a o = cond-by Is16 (eqb i last) (stops 16) a refl o
 
 order-placed : Placed (valueAs order) 4
 unfolding valueAs
 order-placed = record {
   last = λ i v x h. last-place i 3 (cond (eqb i 0) (mnemonicCode v) (decimalOf v)) x h;
   inner = λ i v x h. inner-place i 3 (cond (eqb i 0) (mnemonicCode v) (decimalOf v)) x h;
-  only = λ i b v. only-place i b 3 (cond (eqb i 0) (mnemonicCode v) (decimalOf v)) (only-cond Is16 (eqb i 0) (mnemonicCode v) (decimalOf v) (only-code v) (only-decimal v));
+  only = λ i b v. only-place i b 3 (cond (eqb i 0) (mnemonicCode v) (decimalOf v)) (cond-by Is16 (eqb i 0) (mnemonicCode v) (decimalOf v) (only-code v) (only-decimal v));
 }
 
 halfword-placed : Placed (valueAs halfword) 3
@@ -57,7 +57,7 @@ halfword-placed = record {
   inner = λ i v x h. inner-place i 2 (cond (eqb i 0) (decimalOf v) (cond (eqb i 1) (protectOf v) (wordOf v))) x h;
   only = λ i b v.
       only-place i b 2 (cond (eqb i 0) (decimalOf v) (cond (eqb i 1) (protectOf v) (wordOf v)))
-      (only-cond Is16 (eqb i 0) (decimalOf v) (cond (eqb i 1) (protectOf v) (wordOf v)) (only-decimal v) (only-cond Is16 (eqb i 1) (protectOf v) (wordOf v) (only-protect v) (only-word v)));
+      (cond-by Is16 (eqb i 0) (decimalOf v) (cond (eqb i 1) (protectOf v) (wordOf v)) (only-decimal v) (cond-by Is16 (eqb i 1) (protectOf v) (wordOf v) (only-protect v) (only-word v)));
 }
 
 placed-by : (t : Bool) → 0 < cond t 0 4 → Placed (valueAs order) (cond t 0 4)
@@ -119,19 +119,27 @@ halfword-parsed (a ∷ p ∷ []) = wrong halfword-placed (a ∷ p ∷ []) (λ e.
 halfword-parsed (a ∷ p ∷ w ∷ []) = three (decimalOf a) (protectOf p) (wordOf w) (λ xs. gives (halfwordFromValues xs))
 halfword-parsed (a ∷ p ∷ w ∷ x ∷ vs) = wrong halfword-placed (a ∷ p ∷ w ∷ x ∷ vs) (λ e. omega arith) (λ xs. gives (halfwordFromValues xs))
 
+-- an order line passes check 5
+pub order-legal : (line : List ℕ) (o : Order) → orderOf line ≡ gives o → passes (legalOf o) ≡ true
+unfolding orderOf
+order-legal line o h =
+    let q = then-gives (parsed (valueAs order) 0 (valuesOf line)) (λ xs. legal (orderFromValues xs)) (rw (order-parsed (valuesOf line)) at h) in
+    let r = provided-gives (passes (legalOf (orderFromValues (q .0)))) 16 (gives (orderFromValues (q .0))) (q .2) in
+    subst (λ (x : Order). passes (legalOf x) ≡ true) (gives-inj (r .1)) (r .0)
+
 -- every fault of a line's form is a 16
 pub order-only : (line : List ℕ) → Only16 (orderOf line)
 unfolding orderOf
 order-only line =
     rw (order-parsed (valuesOf line))
-    (only-and-then Is16 (parsed (valueAs order) 0 (valuesOf line)) (λ xs. legal (orderFromValues xs)) (parsed-only order-placed 0 (valuesOf line)) (λ xs.
-    only-provided Is16 (passes (legalOf (orderFromValues xs))) 16 (gives (orderFromValues xs)) refl tt))
+    (then-by Is16 (parsed (valueAs order) 0 (valuesOf line)) (λ xs. legal (orderFromValues xs)) (parsed-only order-placed 0 (valuesOf line)) (λ xs.
+    provided-by Is16 (passes (legalOf (orderFromValues xs))) 16 (gives (orderFromValues xs)) refl tt))
 
 pub halfword-only : (line : List ℕ) → Only16 (halfwordOf line)
 unfolding halfwordOf
 halfword-only line =
     rw (halfword-parsed (valuesOf line))
-    (only-and-then Is16 (parsed (valueAs halfword) 0 (valuesOf line)) (λ xs. gives (halfwordFromValues xs)) (parsed-only halfword-placed 0 (valuesOf line)) (λ xs. tt))
+    (then-by Is16 (parsed (valueAs halfword) 0 (valuesOf line)) (λ xs. gives (halfwordFromValues xs)) (parsed-only halfword-placed 0 (valuesOf line)) (λ xs. tt))
 
 -- ---- a line
 
@@ -179,9 +187,9 @@ pub record Parts (a p w : List ℕ) (h : Halfword) : Type 0 where
 pub halfword-parts : (a p w : List ℕ) (h : Halfword) → halfwordFrom (a ∷ p ∷ w ∷ []) ≡ gives h → Parts a p w h
 unfolding halfwordFrom
 halfword-parts a p w h e =
-    let q = and-then-gives (decimalOf a) (λ x. andThen (protectOf p) (λ y. andThen (wordOf w) (λ z. gives (record { at = x; protect = y; word = z })))) e in
-    let r = and-then-gives (protectOf p) (λ y. andThen (wordOf w) (λ z. gives (record { at = q .0; protect = y; word = z }))) (q .2) in
-    let s = and-then-gives (wordOf w) (λ z. gives (record { at = q .0; protect = r .0; word = z })) (r .2) in
+    let q = then-gives (decimalOf a) (λ x. andThen (protectOf p) (λ y. andThen (wordOf w) (λ z. gives (record { at = x; protect = y; word = z })))) e in
+    let r = then-gives (protectOf p) (λ y. andThen (wordOf w) (λ z. gives (record { at = q .0; protect = y; word = z }))) (q .2) in
+    let s = then-gives (wordOf w) (λ z. gives (record { at = q .0; protect = r .0; word = z })) (r .2) in
     let same = gives-inj {x = record { at = q .0; protect = r .0; word = s .0 }} (s .2) in
     record {
       at = q .1 ∙ ap (λ (g : Halfword). gives (g .at)) same;
@@ -221,7 +229,7 @@ heading-given ok g h = gives-inj (provided-gives ok 16 (gives headed) h .1)
 order-sound : (p : Progress) (line : List ℕ) (t : Bool) (g : Given) → cond t (gives parted) (andThen (orderOf line) (orderFits p)) ≡ gives g → Sound p order g
 order-sound p line true g h = subst (λ (x : Given). Sound p order x) (gives-inj h) parting
 order-sound p line false g h =
-    let q = and-then-gives (orderOf line) (orderFits p) h in
+    let q = then-gives (orderOf line) (orderFits p) h in
     let r = provided-gives (leb (p .count * 4 + 4) (length (p .held .cells))) 17 (gives (ordered (q .0))) (q .2) in
     subst (λ (x : Given). Sound p order x) (gives-inj (r .1)) (anOrder (q .0) (leb-true _ _ (r .0), tt))
 
@@ -231,7 +239,7 @@ sound heading p line g h = subst (λ (x : Given). Sound p heading x) (heading-gi
 sound order p line g h = order-sound p line (same line []) g h
 sound storage p line g h = subst (λ (x : Given). Sound p storage x) (heading-given (same line storageHeading) g h) second
 sound halfword p line g h =
-    let q = and-then-gives (halfwordOf line) (halfwordFits p) h in
+    let q = then-gives (halfwordOf line) (halfwordFits p) h in
     let a = provided-gives (leb (p .least) (q .0 .at)) 16 _ (q .2) in
     let b = provided-gives (ltb (q .0 .at) (length (p .held .memory))) 17 _ (a .1) in
     let c = provided-gives (holds (p .held .protect) (q .0 .at)) 17 (gives (stored (q .0))) (b .1) in

@@ -23,3 +23,4 @@ pub mod Laws
 mod Numbers
 pub mod Packed
 pub mod Theorems
+pub mod Unindexed

@@ -11,12 +11,12 @@ use borrow.Author.Tests.{ltb-true, ltb-false}
 use Rattle.hexfloat.specs.Answer.{gives, provided, andThen}
 use Rattle.orders.specs.declared.order.Order.{Order}
 use Rattle.protection.specs.Form.{holds}
-use Rattle.hexfloat.proofs.Answers.{gives-inj, provided-gives}
+use Rattle.hexfloat.proofs.Answers.{gives-inj, provided-gives, StopsBy, cond-by, provided-by, then-by, then-gives}
 use Rattle.decktext.specs.Text.{Line, ended, unended, linesOf, same}
 use Rattle.decktext.specs.Format.{deckHeading, storageHeading, orderOf, halfwordOf}
 use Rattle.decktext.specs.Read.{Buffers, refused, taken, outcome, Wanted, heading, order, storage, halfword, Progress, start, Given, headed, ordered, parted, stored, orderFits, halfwordFits, lineAs, lineRead, progressed, Read, whole, faulty, linesRead, concludedWith, readText}
 use Rattle.decktext.specs.Theorems.{Through, Faulty, Numbered, count, malformed, noRoom, aboveLimit, upToEmpty, afterFirst, orderLines}
-use Rattle.decktext.proofs.Answers.{Is16or17, Only, only-either, only-provided, only-and-then, only-cond, and-then-gives}
+use Rattle.decktext.proofs.Answers.{Is16or17, only-either}
 use Rattle.decktext.proofs.Forms.{Sound, first, anOrder, parting, second, aHalfword, heading-given, order-only, halfword-only}
 use Rattle.decktext.proofs.Laws.{accepted}
 use Rattle.decktext.proofs.Passing.{read-on, through, first-fault, line-sound}
@@ -24,23 +24,23 @@ use Rattle.decktext.proofs.Walking.{textRead, other}
 
 -- ---- one of the numbers
 
-room-only : (ok : Bool) (g : Given) → Only Is16or17 (provided ok 17 (gives g))
-room-only ok g = only-provided Is16or17 ok 17 (gives g) (inr refl) tt
+room-only : (ok : Bool) (g : Given) → StopsBy Is16or17 (provided ok 17 (gives g))
+room-only ok g = provided-by Is16or17 ok 17 (gives g) (inr refl) tt
 
-halfword-fits-only : (rises memory protect : Bool) (g : Given) → Only Is16or17 (provided rises 16 (provided memory 17 (provided protect 17 (gives g))))
+halfword-fits-only : (rises memory protect : Bool) (g : Given) → StopsBy Is16or17 (provided rises 16 (provided memory 17 (provided protect 17 (gives g))))
 halfword-fits-only rises memory protect g =
-    only-provided Is16or17 rises 16 (provided memory 17 (provided protect 17 (gives g))) (inl refl)
-    (only-provided Is16or17 memory 17 (provided protect 17 (gives g)) (inr refl) (room-only protect g))
+    provided-by Is16or17 rises 16 (provided memory 17 (provided protect 17 (gives g))) (inl refl)
+    (provided-by Is16or17 memory 17 (provided protect 17 (gives g)) (inr refl) (room-only protect g))
 
-line-only : (w : Wanted) (p : Progress) (l : List ℕ) → Only Is16or17 (lineAs w p l)
-line-only heading p l = only-provided Is16or17 (same l deckHeading) 16 (gives headed) (inl refl) tt
+line-only : (w : Wanted) (p : Progress) (l : List ℕ) → StopsBy Is16or17 (lineAs w p l)
+line-only heading p l = provided-by Is16or17 (same l deckHeading) 16 (gives headed) (inl refl) tt
 line-only order p l =
-    only-cond Is16or17 (same l []) (gives parted) (andThen (orderOf l) (orderFits p)) tt
-    (only-and-then Is16or17 (orderOf l) (orderFits p) (only-either (orderOf l) (order-only l)) (λ o.
+    cond-by Is16or17 (same l []) (gives parted) (andThen (orderOf l) (orderFits p)) tt
+    (then-by Is16or17 (orderOf l) (orderFits p) (only-either (orderOf l) (order-only l)) (λ o.
     room-only (leb (p .count * 4 + 4) (length (p .held .cells))) (ordered o)))
-line-only storage p l = only-provided Is16or17 (same l storageHeading) 16 (gives headed) (inl refl) tt
+line-only storage p l = provided-by Is16or17 (same l storageHeading) 16 (gives headed) (inl refl) tt
 line-only halfword p l =
-    only-and-then Is16or17 (halfwordOf l) (halfwordFits p) (only-either (halfwordOf l) (halfword-only l)) (λ h.
+    then-by Is16or17 (halfwordOf l) (halfwordFits p) (only-either (halfwordOf l) (halfword-only l)) (λ h.
     halfword-fits-only (leb (p .least) (h .at)) (ltb (h .at) (length (p .held .memory))) (holds (p .held .protect) (h .at)) (stored h))
 
 fault-number : (ls : List Line) (p : Progress) (n : ℕ) → Faulty ls p n → Is16or17 n
@@ -95,7 +95,7 @@ empty-line p g e h = sym (gives-inj (rw e at h))
 order-line : (p : Progress) (b : ℕ) (l : List ℕ) (g : Given) → p .wanted ≡ order → lineRead p (b ∷ l) ≡ gives g → (o : Order) × (g ≡ ordered o)
 unfolding lineRead same
 order-line p b l g e h =
-    let q = and-then-gives (orderOf (b ∷ l)) (orderFits p) (rw e at h) in
+    let q = then-gives (orderOf (b ∷ l)) (orderFits p) (rw e at h) in
     (q .0, sym (gives-inj (provided-gives (leb (p .count * 4 + 4) (length (p .held .cells))) 17 (gives (ordered (q .0))) (q .2) .1)))
 
 orders-count : (ls : List Line) (p q : Progress) → p .wanted ≡ order → Through ls p q → q .count ≡ p .count + length (upToEmpty ls)

@@ -10,10 +10,10 @@ use lib.ListN.{length, take, set, length-set}
 use lib.Seq.{append-snoc, take-suc-set}
 use borrow.Author.Tests.{eqb-true, eqb-false}
 use Rattle.hexfloat.specs.Answer.{Answer, gives, stops, andThen}
-use Rattle.hexfloat.proofs.Answers.{never}
+use Rattle.hexfloat.proofs.Answers.{never, then-by, then-gives}
 use Rattle.decktext.specs.Text.{valuesOf}
 use Rattle.decktext.specs.Walk.{Stretch}
-use Rattle.decktext.proofs.Answers.{Is16, Only16, only-refused, only-and-then, and-then-gives}
+use Rattle.decktext.proofs.Answers.{Is16, Only16, only-refused}
 use Rattle.decktext.proofs.Lines.{part, value-ended, value-last, some-value}
 
 -- a value by its place, and whether it ends the line
@@ -33,20 +33,20 @@ pub record Placed (k : Kind) (n : ℕ) : Type 0 where
 
 pub parsed-only : {k : Kind} {n : ℕ} → Placed k n → (i : ℕ) (vs : List (List ℕ)) → Only16 (parsed k i vs)
 parsed-only p i [] = refl
-parsed-only {k} p i (v ∷ []) = only-and-then Is16 (k i true v) (λ x. gives (x ∷ [])) (p .only i true v) (λ x. tt)
+parsed-only {k} p i (v ∷ []) = then-by Is16 (k i true v) (λ x. gives (x ∷ [])) (p .only i true v) (λ x. tt)
 parsed-only {k} p i (v ∷ w ∷ vs) =
-    only-and-then Is16 (k i false v) (λ x. andThen (parsed k (i + 1) (w ∷ vs)) (λ xs. gives (x ∷ xs))) (p .only i false v)
-    (λ x. only-and-then Is16 (parsed k (i + 1) (w ∷ vs)) (λ xs. gives (x ∷ xs)) (parsed-only p (i + 1) (w ∷ vs)) (λ xs. tt))
+    then-by Is16 (k i false v) (λ x. andThen (parsed k (i + 1) (w ∷ vs)) (λ xs. gives (x ∷ xs))) (p .only i false v)
+    (λ x. then-by Is16 (parsed k (i + 1) (w ∷ vs)) (λ xs. gives (x ∷ xs)) (parsed-only p (i + 1) (w ∷ vs)) (λ xs. tt))
 
 parsed-length : {k : Kind} {n : ℕ} → Placed k n → (i : ℕ) (vs : List (List ℕ)) (xs : List ℕ) → parsed k i vs ≡ gives xs → i + length vs ≡ n
 parsed-length p i [] xs h = never h
 parsed-length {k} p i (v ∷ []) xs h =
-    let q = and-then-gives (k i true v) (λ x. gives (x ∷ [])) h in
+    let q = then-gives (k i true v) (λ x. gives (x ∷ [])) h in
     let e = p .last i v (q .0) (q .1) in
     omega arith
 parsed-length {k} p i (v ∷ w ∷ vs) xs h =
-    let q = and-then-gives (k i false v) (λ x. andThen (parsed k (i + 1) (w ∷ vs)) (λ xs. gives (x ∷ xs))) h in
-    let r = and-then-gives (parsed k (i + 1) (w ∷ vs)) (λ xs. gives (q .0 ∷ xs)) (q .2) in
+    let q = then-gives (k i false v) (λ x. andThen (parsed k (i + 1) (w ∷ vs)) (λ xs. gives (x ∷ xs))) h in
+    let r = then-gives (parsed k (i + 1) (w ∷ vs)) (λ xs. gives (q .0 ∷ xs)) (q .2) in
     let e = parsed-length p (i + 1) (w ∷ vs) (r .0) (r .1) in
     omega arith
 

@@ -12,7 +12,6 @@ use Rattle.hexfloat.proofs.Answers.{both}
 use Rattle.hexfloat.specs.Answer.{Answer, gives, stops}
 use Rattle.decktext.specs.Value.{mnemonics}
 use Rattle.decktext.specs.Key.{nameKey, codeAmongKeys, codeByKey, slotOf, SlotTable}
-use Rattle.decktext.proofs.Same.{}
 use Rattle.decktext.proofs.Tested.{allBelow, passes}
 
 abbrev answers : Answer ℕ → ℕ → Bool

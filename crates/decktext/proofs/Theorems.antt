@@ -5,16 +5,11 @@ use mathlib.Core.List.{List, _∷_, _++_}
 use native.Mathlib.Omega.{arith}
 use lib.ListN.{length, getD}
 use lib.Seq.{getD-set-same}
-use Rattle.hexfloat.specs.Answer.{Answer, gives, stops, mapped, provided}
-use Rattle.orders.specs.declared.order.Operation.{Operation}
-use Rattle.orders.specs.declared.order.Order.{Order}
-use Rattle.orders.specs.Order.{legalOf, orderAt}
-use Rattle.orders.specs.Unindexed.{unindexedRow, unindexedLegal, NoIndex}
-use Rattle.orders.proofs.Unindexed.{legal-unindexed}
+use Rattle.hexfloat.specs.Answer.{gives}
+use Rattle.orders.specs.Order.{orderAt}
 use Rattle.protection.specs.Form.{isProtected, withMark}
 use Rattle.protection.specs.Bits.{bitForm}
 use Rattle.decktext.specs.Text.{Line, ended, linesOf}
-use Rattle.decktext.specs.Format.{passes, legal}
 use Rattle.decktext.specs.Read.{Buffers, refused, taken, Outcome, Progress, start, Given, ordered, stored, order, lineRead, bufferedWith, progressed, Read, whole, faulty, concludedWith, linesRead, readText}
 use Rattle.decktext.specs.Theorems.{Through, FirstFault, Written, Reader}
 use Rattle.decktext.proofs.Cells.{order-put}
@@ -25,6 +20,7 @@ use Rattle.decktext.proofs.Passing.{front, through, skip, first-fault, 
 use Rattle.decktext.proofs.Numbers.{numbered, counted}
 use Rattle.decktext.proofs.Packed.{as-before}
 use Rattle.decktext.proofs.Readings.{apart, within-limit}
+use Rattle.decktext.proofs.Unindexed.{unindexed}
 use Rattle.decktext.proofs.Walking.{textRead}
 
 -- ---- the first fault
@@ -91,15 +87,6 @@ written t b n h = record {
       let form : p .held .protect .form ≡ bitForm = all-kept before (start b) p gone .form ∙ packed in
       ap (λ (x : Buffers). isProtected (x .protect) (m .at)) e ∙ k .protect form (m .at) (omega arith) ∙ marked-here (p .held .protect) form (m .at) (m .protect) (s .0 .1) (s .1);
 }
-
--- ---- orders that name no index
-
-unindexed : (o : Order) → NoIndex o → legal o ≡ provided (passes (unindexedLegal o)) 16 (gives o)
-unindexed o none = rw (legal-unindexed o none) (cases (legalOf o))
-  where
-    cases : (r : Answer Operation) → provided (passes r) 16 (gives o) ≡ provided (passes (mapped unindexedRow r)) 16 (gives o)
-    cases (gives op) = refl
-    cases (stops n) = refl
 
 pub reader : Reader
 reader = record { refusal = refusal; accepted = written; numbered = numbered; counted = counted; as-before = as-before; unindexed = unindexed }

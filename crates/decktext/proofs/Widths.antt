@@ -8,13 +8,12 @@ use lib.Dec.{eqb, leb}
 use lib.ListN.{length}
 use Rattle.hexfloat.specs.Answer.{Answer, gives, stops, andThen}
 use Rattle.orders.specs.declared.order.Order.{Order}
-use Rattle.hexfloat.proofs.Answers.{gives-inj, never, provided-gives}
+use Rattle.hexfloat.proofs.Answers.{gives-inj, never, provided-gives, then-gives}
 use Rattle.decktext.specs.Text.{same, prefixed, valuesOf}
 use Rattle.decktext.specs.Value.{codeAmong, mnemonicCode, decimalOf, protectOf, wordOf}
 use Rattle.decktext.specs.Format.{legal, orderFrom, orderOf, Halfword, halfwordFrom, halfwordOf}
 use Rattle.decktext.specs.Read.{Wanted, heading, order, storage, halfword, Progress, Given, ordered, parted, orderFits, halfwordFits, lineAs}
 use Rattle.decktext.specs.Staged.{valuesIn}
-use Rattle.decktext.proofs.Answers.{and-then-gives}
 use Rattle.decktext.proofs.Forms.{Sound, first, anOrder, parting, second, aHalfword, halfword-parts, sound}
 
 -- the bytes of some values, with a blank or the LF after each
@@ -63,10 +62,10 @@ order-bytes (m ∷ []) o h = never h
 order-bytes (m ∷ a ∷ []) o h = never h
 order-bytes (m ∷ a ∷ b ∷ []) o h = never h
 order-bytes (m ∷ a ∷ b ∷ c ∷ []) o h =
-    let p = and-then-gives (mnemonicCode m) (λ op. andThen (decimalOf a) (λ r1. andThen (decimalOf b) (λ r2. andThen (decimalOf c) (λ at. legal (record { code = op; r1 = r1; r2 = r2; at = at }))))) h in
-    let q = and-then-gives (decimalOf a) (λ r1. andThen (decimalOf b) (λ r2. andThen (decimalOf c) (λ at. legal (record { code = p .0; r1 = r1; r2 = r2; at = at })))) (p .2) in
-    let r = and-then-gives (decimalOf b) (λ r2. andThen (decimalOf c) (λ at. legal (record { code = p .0; r1 = q .0; r2 = r2; at = at }))) (q .2) in
-    let s = and-then-gives (decimalOf c) (λ at. legal (record { code = p .0; r1 = q .0; r2 = r .0; at = at })) (r .2) in
+    let p = then-gives (mnemonicCode m) (λ op. andThen (decimalOf a) (λ r1. andThen (decimalOf b) (λ r2. andThen (decimalOf c) (λ at. legal (record { code = op; r1 = r1; r2 = r2; at = at }))))) h in
+    let q = then-gives (decimalOf a) (λ r1. andThen (decimalOf b) (λ r2. andThen (decimalOf c) (λ at. legal (record { code = p .0; r1 = r1; r2 = r2; at = at })))) (p .2) in
+    let r = then-gives (decimalOf b) (λ r2. andThen (decimalOf c) (λ at. legal (record { code = p .0; r1 = q .0; r2 = r2; at = at }))) (q .2) in
+    let s = then-gives (decimalOf c) (λ at. legal (record { code = p .0; r1 = q .0; r2 = r .0; at = at })) (r .2) in
     omega (arith, some mnemonicCode 16 no-code m (p .0) (p .1), some decimalOf 16 no-decimal a (q .0) (q .1), some decimalOf 16 no-decimal b (r .0) (r .1), some decimalOf 16 no-decimal c (s .0) (s .1))
 order-bytes (m ∷ a ∷ b ∷ c ∷ d ∷ vs) o h = never h
 
@@ -84,14 +83,14 @@ order-line-bytes : (p : Progress) (line : List ℕ) (t : Bool) (g : Given) → c
 unfolding orderOf
 order-line-bytes p line true g h = rw (← gives-inj h) (omega arith)
 order-line-bytes p line false g h =
-    let q = and-then-gives (orderOf line) (orderFits p) h in
+    let q = then-gives (orderOf line) (orderFits p) h in
     let r = provided-gives (leb (p .count * 4 + 4) (length (p .held .cells))) 17 (gives (ordered (q .0))) (q .2) in
     rw (← gives-inj (r .1)) (omega (arith, order-bytes (valuesOf line) (q .0) (q .1), values-bytes line))
 
 halfword-line-bytes : (p : Progress) (line : List ℕ) (g : Given) → andThen (halfwordOf line) (halfwordFits p) ≡ gives g → 6 ≤ length line + 1
 unfolding halfwordOf
 halfword-line-bytes p line g h =
-    let q = and-then-gives (halfwordOf line) (halfwordFits p) h in
+    let q = then-gives (halfwordOf line) (halfwordFits p) h in
     omega (arith, halfword-bytes (valuesOf line) (q .0) (q .1), values-bytes line)
 
 -- how many values a line of each kind gives at most

@@ -4,6 +4,7 @@ pub mod Value
 pub mod DigitTable
 pub mod Format
 pub mod Read
+pub mod Unindexed
 pub mod Key
 pub mod Walk
 pub mod Staged

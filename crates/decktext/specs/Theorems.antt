@@ -4,16 +4,16 @@ use mathlib.Core.Path.{_≡_}
 use mathlib.Core.List.{List, [], _∷_, _++_}
 use lib.Dec.{eqb}
 use lib.ListN.{length, getD}
-use Rattle.hexfloat.specs.Answer.{gives, stops, provided}
+use Rattle.hexfloat.specs.Answer.{gives, stops}
 use Rattle.orders.specs.declared.order.Order.{Order}
 use Rattle.orders.specs.Order.{orderAt}
-use Rattle.orders.specs.Unindexed.{unindexedLegal, NoIndex}
 use Rattle.protection.specs.Form.{isProtected}
 use Rattle.protection.specs.Bits.{bitForm, bitwise}
 use Rattle.protection.specs.Bytes.{bytewise, unpacked}
 use Rattle.decktext.specs.Text.{Line, ended, unended, linesOf}
-use Rattle.decktext.specs.Format.{passes, legal, Halfword}
+use Rattle.decktext.specs.Format.{Halfword}
 use Rattle.decktext.specs.Read.{Buffers, buffers, Said, refused, taken, Wanted, heading, order, storage, halfword, Progress, start, Given, ordered, stored, lineRead, progressed, outcome, readText}
+use Rattle.decktext.specs.Unindexed.{unindexedReadText, NoIndexLines}
 
 -- each of these lines is ended, well formed and fits, and they take p to q
 abbrev pub Through : List Line → Progress → Progress → Type 0
@@ -92,5 +92,5 @@ pub record Reader : Type 0 where
   -- what is left packed stands for what the same text leaves with a byte a halfword: the same answer, cells and memory, and the list that it stands for
   pub as-before : (t c m p : List ℕ) → length p ≡ bitForm .coverOf (length m)
       → readText t (standsFor (packedWith c m p)) ≡ outcome (standsFor (readText t (packedWith c m p) .after)) (readText t (packedWith c m p) .said)
-  -- check 5 enters by `legal` alone: the order of a line that names no index is taken exactly if it was before storage orders were indexed (document 02, Job 7)
-  pub unindexed : (o : Order) → NoIndex o → legal o ≡ provided (passes (unindexedLegal o)) 16 (gives o)
+  -- a text none of whose order lines names an index is read as it was before storage orders were indexed (document 02, Job 7)
+  pub unindexed : (t : List ℕ) (b : Buffers) → NoIndexLines (linesOf t) → readText t b ≡ unindexedReadText t b

@@ -5,8 +5,11 @@ use mathlib.Core.Bool.{cond}
 use lib.ListN.{length}
 use lib.Dec.{eqb}
 use Rattle.hexfloat.specs.Answer.{Answer, gives, stops}
+use Rattle.orders.specs.declared.order.Order.{Order}
+use Rattle.orders.specs.Order.{orderAt}
 use Rattle.protection.specs.Form.{ProtectList}
 use Rattle.machine.specs.declared.verdict.Effect.{Effect}
+use Rattle.machine.specs.Address.{addressOf}
 use Rattle.machine.specs.Decide.{decided}
 use Rattle.machine.specs.Machine.{Machine, committed}
 
@@ -31,6 +34,13 @@ counted r = outcome (r .after) (r .taken + 1) (r .stop)
 abbrev pub onward : {W : Type 0} → Answer Effect → W → (Effect → W) → (W → Outcome W) → Outcome W
 onward (stops k) x take rest = outcome x 0 k
 onward (gives e) x take rest = counted (rest (take e))
+
+-- the order at the pointer, and where its S begins
+abbrev pub nextOrder : List ℕ → Machine → Order
+nextOrder d x = orderAt d (x .state .registers .status .pointer)
+
+abbrev pub nextAddress : List ℕ → Machine → ℕ
+nextAddress d x = addressOf (nextOrder d x) (x .state .registers .general)
 
 abbrev pub verdictOf : List ℕ → ProtectList → Machine → Answer Effect
 verdictOf d p x = decided d p (x .state .registers) (x .state .used) (x .memory) (length (x .journal))
