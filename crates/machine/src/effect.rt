@@ -229,7 +229,8 @@ fn perform(
     }
 }
 
-// Checks 8 to 11, or the effect of an order whose S, if it has one, is at `at`. All operands are read here, before anything is written.
+// Checks 8 to 11, or the effect of an order whose S, if it has one, is at `at`. All operands are read
+// here, before anything is written.
 pub fn effect(
     op: Operation,
     o: Order,
