@@ -17,7 +17,7 @@ use Rattle.orders.specs.Order.{rows, withinLimits, legalOf, spanOf, storedOf}
 use Rattle.protection.specs.Form.{ProtectList, covers, isProtected}
 use Rattle.machine.specs.declared.state.Registers.{Registers}
 use Rattle.machine.specs.declared.verdict.Effect.{Effect}
-use Rattle.machine.specs.Address.{indexOf, addressOf}
+use Rattle.orders.specs.Address.{indexOf, addressOf}
 use Rattle.machine.specs.Check.{deckSized, buffersSized, stateFormed, present, anyProtected}
 use Rattle.machine.specs.Decide.{heldStop, entryStop, judged, decided}
 use Rattle.machine.specs.Effect.{effectOf}

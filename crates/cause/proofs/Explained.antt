@@ -17,7 +17,7 @@ use Rattle.protection.specs.Form.{ProtectList, isProtected}
 use Rattle.machine.specs.declared.fetching.Fetched.{Fetched}
 use Rattle.machine.specs.declared.fetching.Operands.{Operands}
 use Rattle.machine.specs.declared.state.Registers.{Registers}
-use Rattle.machine.specs.Address.{addressOf}
+use Rattle.orders.specs.Address.{addressOf}
 use Rattle.machine.specs.Check.{present}
 use Rattle.machine.specs.Decide.{accessed}
 use Rattle.machine.specs.Effect.{effectOf}

@@ -20,13 +20,13 @@ use Rattle.protection.specs.Form.{ProtectList}
 use Rattle.machine.specs.declared.fetching.Operands.{Operands}
 use Rattle.machine.specs.declared.state.Registers.{Registers}
 use Rattle.machine.specs.declared.verdict.Effect.{Effect}
-use Rattle.machine.specs.Address.{addressOf}
+use Rattle.orders.specs.Address.{addressOf}
 use Rattle.machine.specs.Check.{present}
 use Rattle.machine.specs.Fetch.{operandsRead}
 use Rattle.machine.specs.Machine.{Machine}
 use Rattle.machine.specs.Operand.{floatOperand, secondOperand}
 use Rattle.machine.specs.Step.{nextOrder, nextAddress, verdictOf}
-use Rattle.machine.proofs.Addresses.{address-plain}
+use Rattle.orders.proofs.Addresses.{address-plain}
 use Rattle.machine.proofs.Rows.{legal-passed}
 use Rattle.machine.proofs.Unindexed.{decided-unindexed}
 use Rattle.cause.specs.declared.naming.Named.{Named}

@@ -12,6 +12,7 @@ use machine::State;
 use orders::Legality;
 use orders::Operation;
 use orders::Order;
+use orders::address;
 use orders::halts;
 use orders::legal;
 use orders::order_at;
@@ -20,7 +21,7 @@ use orders::stored;
 ghost use mathlib.Core.Path.{_≡_};
 ghost use Prim.Native.Nat.{_≤_};
 ghost use Rattle.protection.specs.Bits.{bitwise};
-ghost use Rattle.machine.specs.Address.{addressOf};
+ghost use Rattle.orders.specs.Address.{addressOf};
 ghost use Rattle.machine.specs.Decide.{accessed, judgedAt};
 ghost use Rattle.machine.specs.Machine.{machine};
 ghost use Rattle.cause.specs.Attempt.{Accessible};
@@ -45,7 +46,7 @@ fn access(op: Operation, o: Order, registers: Registers, memory: &[u16], protect
 {
     let float = registers.float;
     let general = registers.general;
-    let at = machine::address(o, &general);
+    let at = address(o, &general);
     let fetched = machine::fetch(o, &float, &general, memory);
     let Fetched::Read(q) = fetched else {
         return Cause {

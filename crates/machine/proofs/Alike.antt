@@ -18,7 +18,7 @@ use Rattle.machine.specs.declared.state.Registers.{Registers}
 use Rattle.machine.specs.declared.state.State.{State}
 use Rattle.machine.specs.declared.state.Status.{Status}
 use Rattle.machine.specs.declared.verdict.Effect.{Effect}
-use Rattle.machine.specs.Address.{addressOf}
+use Rattle.orders.specs.Address.{addressOf}
 use Rattle.machine.specs.Back.{allowed, returning}
 use Rattle.machine.specs.Change.{placed, guarded}
 use Rattle.machine.specs.Check.{buffersSized, present, anyProtected}

@@ -1,4 +1,3 @@
-pub mod Addresses
 pub mod Alike
 pub mod Arithmetic
 pub mod Checks

@@ -18,7 +18,7 @@ use Rattle.orders.specs.declared.order.Verb.{Verb}
 use Rattle.protection.specs.Form.{ProtectList}
 use Rattle.machine.specs.declared.state.Registers.{Registers}
 use Rattle.machine.specs.declared.verdict.Effect.{Effect}
-use Rattle.machine.specs.Address.{addressOf}
+use Rattle.orders.specs.Address.{addressOf}
 use Rattle.machine.specs.Check.{present, anyProtected}
 use Rattle.machine.specs.Decide.{entryStop, judged, decided}
 use Rattle.machine.specs.Effect.{fixedInto, resultInto, productWidth, performed, effectOf}

@@ -22,13 +22,13 @@ use Rattle.orders.proofs.Unindexed.{legal-unindexed}
 use Rattle.protection.specs.Form.{ProtectList}
 use Rattle.machine.specs.declared.state.Registers.{Registers}
 use Rattle.machine.specs.declared.verdict.Effect.{Effect}
-use Rattle.machine.specs.Address.{addressOf}
+use Rattle.orders.specs.Address.{addressOf}
 use Rattle.machine.specs.Check.{present, anyProtected}
 use Rattle.machine.specs.Decide.{entryStop, accessed, judged, judgedAt, decided}
 use Rattle.machine.specs.Effect.{performed, effectOf}
 use Rattle.machine.specs.Operand.{secondOperand}
 use Rattle.machine.specs.Unindexed.{unindexedJudged, unindexedDecided}
-use Rattle.machine.proofs.Addresses.{address-plain}
+use Rattle.orders.proofs.Addresses.{address-plain}
 use Rattle.machine.proofs.Placed.{some}
 use Rattle.machine.proofs.Rows.{legal-passed}
 

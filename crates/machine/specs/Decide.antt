@@ -11,7 +11,7 @@ use Rattle.protection.specs.Form.{ProtectList}
 use Rattle.machine.specs.declared.state.Registers.{Registers}
 use Rattle.machine.specs.declared.state.Status.{Status}
 use Rattle.machine.specs.declared.verdict.Effect.{Effect}
-use Rattle.machine.specs.Address.{addressOf}
+use Rattle.orders.specs.Address.{addressOf}
 use Rattle.machine.specs.Check.{deckSized, buffersSized, stateFormed, present, anyProtected}
 use Rattle.machine.specs.Effect.{effectOf}
 use Rattle.orders.specs.Order.{legalOf, spanOf, storedOf, isHalt, orderAt}

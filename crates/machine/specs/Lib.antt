@@ -4,7 +4,6 @@ pub mod Status
 pub mod Fresh
 pub mod Check
 pub mod Operand
-pub mod Address
 pub mod Change
 pub mod Jump
 pub mod Effect

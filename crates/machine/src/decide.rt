@@ -1,5 +1,4 @@
 // Every check of a step, in the table's order.
-use crate::addressing::address;
 use crate::check::any_protected;
 use crate::check::buffers_sized;
 use crate::check::deck_sized;
@@ -14,13 +13,14 @@ use crate::verdict::Verdict;
 use orders::Legality;
 use orders::Operation;
 use orders::Order;
+use orders::address;
 use orders::halts;
 use orders::legal;
 use orders::span;
 use orders::stored;
 ghost use mathlib.Core.Path.{_≡_};
 ghost use Rattle.protection.specs.Bits.{bitwise};
-ghost use Rattle.machine.specs.Address.{addressOf};
+ghost use Rattle.orders.specs.Address.{addressOf};
 ghost use Rattle.machine.specs.Decide.{heldStop, entryStop, judged, decided, Judgeable};
 ghost use Rattle.machine.specs.Machine.{registers};
 ghost use Rattle.machine.specs.Stops.{numberOf};

@@ -1,5 +1,4 @@
 // The operands of an order, for tools that ask what it would read.
-use crate::addressing::address;
 use crate::check::is_present;
 use crate::operand::float_operand;
 use crate::operand::second_operand;
@@ -7,10 +6,11 @@ use hexfloat::Words;
 use orders::Legality;
 use orders::Operation;
 use orders::Order;
+use orders::address;
 use orders::legal;
 use orders::span;
 ghost use mathlib.Core.Path.{_≡_};
-ghost use Rattle.machine.specs.Address.{addressOf};
+ghost use Rattle.orders.specs.Address.{addressOf};
 ghost use Rattle.machine.specs.Fetch.{operandsRead, saysFetched};
 
 // R r1 or pair r1, and the second operand, with the order's row.

@@ -2,9 +2,8 @@
 //
 // A step decides first and writes afterwards, so a stop leaves everything as it was. What this file
 // exports has no `requires` and one equation with a definition of specs/ as its whole contract; functions
-// between the modules may have a `requires`. `fresh`, `step`, `run` and `back` hand a state back; `entry`,
-// `fetch` and `address` are for tools that ask and write nothing.
-mod addressing;
+// between the modules may have a `requires`. `fresh`, `step`, `run` and `back` hand a state back; `entry`
+// and `fetch` are for tools that ask and write nothing.
 mod advance;
 mod change;
 mod check;
@@ -22,7 +21,6 @@ mod stop;
 mod undoing;
 mod verdict;
 
-pub use addressing::address;
 pub use decide::entry;
 pub use fetching::Fetched;
 pub use fetching::Operands;

@@ -1,3 +1,4 @@
+pub mod Addresses
 pub mod Passing
 pub mod Table
 pub mod Unindexed

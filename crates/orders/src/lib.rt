@@ -1,9 +1,11 @@
-// The orders of the desk: document 01's table, and check 5.
+// The orders of the desk: document 01's table, check 5, and the address of the storage operand.
 //
 // What is public takes an order of any content and has no `requires`.
+mod addressing;
 mod deck;
 mod order;
 
+pub use addressing::address;
 pub use deck::order_at;
 pub use order::Legality;
 pub use order::Operation;

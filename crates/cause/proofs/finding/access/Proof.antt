@@ -5,9 +5,9 @@ use mathlib.Core.Path.{sym, ap, _∙_}
 use native.Mathlib.Omega.{arith}
 use borrow.Author.Needs.{needs}
 use Rattle.protection.specs.Bits.{bitwise}
-use Rattle.machine.specs.Address.{addressOf}
+use Rattle.orders.specs.Address.{addressOf}
 use Rattle.machine.specs.Fetch.{saysFetched}
-use Rattle.machine.proofs.Addresses.{address-below}
+use Rattle.orders.proofs.Addresses.{address-below}
 use Rattle.machine.proofs.Rows.{legal-passed}
 use Rattle.cause.proofs.Explained.{unread, explain-absent, explain-protected, explain-taken, explain-words}
 use Rattle.cause.proofs.finding.access.Statement.{statement}

@@ -1,7 +1,7 @@
 // The address of the storage operand.
-use orders::Order;
+use crate::order::Order;
 ghost use mathlib.Core.Path.{_≡_};
-ghost use Rattle.machine.specs.Address.{indexOf, addressOf};
+ghost use Rattle.orders.specs.Address.{indexOf, addressOf};
 
 // What r2 adds to the address: the lower halfword of G r2. Register 0 cannot hold an index.
 fn index(r: u16, general: &[u32; 8]) -> u32

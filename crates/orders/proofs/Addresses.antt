@@ -4,11 +4,11 @@ use mathlib.Core.Path.{_≡_}
 use mathlib.Core.List.{List}
 use mathlib.Core.Bool.{Bool, true, false, cond, _&&_}
 use lib.Dec.{leb}
+use lib.ListN.{getD}
 use native.Mathlib.Omega.{arith}
 use borrow.Author.Tests.{le-leb, lt-leb}
 use Rattle.orders.specs.declared.order.Order.{Order}
-use Rattle.machine.specs.Address.{indexOf, addressOf}
-use Rattle.machine.specs.Operand.{generalAt}
+use Rattle.orders.specs.Address.{indexOf, addressOf}
 
 module _ (r : ℕ) (n : List ℕ) where
   -- r 0 adds nothing, whatever register 0 holds
@@ -20,7 +20,7 @@ module _ (r : ℕ) (n : List ℕ) where
   unfolding indexOf
   index-past h = rw (le-leb 1 r (omega arith), lt-leb r 7 h)
 
-  pub index-some : 1 ≤ r → r ≤ 7 → indexOf r n ≡ generalAt n r % 65536
+  pub index-some : 1 ≤ r → r ≤ 7 → indexOf r n ≡ getD n r 0 % 65536
   unfolding indexOf
   index-some l u = rw (le-leb 1 r l, le-leb r 7 u)
 
@@ -29,7 +29,7 @@ module _ (r : ℕ) (n : List ℕ) where
   unfolding indexOf
   index-below = cases (leb 1 r && leb r 7)
     where
-      cases : (b : Bool) → cond b (generalAt n r % 65536) 0 < 65536
+      cases : (b : Bool) → cond b (getD n r 0 % 65536) 0 < 65536
       cases true = omega arith
       cases false = omega arith
 

@@ -1,11 +1,11 @@
--- `machine::addressing::index` meets its contract: register 0, a register that is not there, and the others.
+-- `orders::addressing::index` meets its contract: register 0, a register that is not there, and the others.
 -- Assumes nothing.
 use mathlib.Core.Path.{sym}
 use native.Mathlib.Omega.{arith}
 use borrow.Author.Needs.{needs}
-use Rattle.machine.proofs.Addresses.{index-none, index-past, index-some}
-use Rattle.machine.proofs.addressing.index.Statement.{statement}
-use Rattle.machine.proofs.addressing.index.Tie as tie
+use Rattle.orders.proofs.Addresses.{index-none, index-past, index-some}
+use Rattle.orders.proofs.addressing.index.Statement.{statement}
+use Rattle.orders.proofs.addressing.index.Tie as tie
 
 returns : tie.Need-returns
 returns c = sym (index-none _ _ (c .if1 .taken))

@@ -1,11 +1,11 @@
--- `machine::addressing::address` meets its contract: two halfwords added.
+-- `orders::addressing::address` meets its contract: two halfwords added.
 -- Assumes nothing.
 use native.Mathlib.Omega.{arith}
 use borrow.Author.Needs.{needs}
-use Rattle.machine.specs.Address.{addressOf}
-use Rattle.machine.proofs.Addresses.{index-below}
-use Rattle.machine.proofs.addressing.address.Statement.{statement}
-use Rattle.machine.proofs.addressing.address.Tie as tie
+use Rattle.orders.specs.Address.{addressOf}
+use Rattle.orders.proofs.Addresses.{index-below}
+use Rattle.orders.proofs.addressing.address.Statement.{statement}
+use Rattle.orders.proofs.addressing.address.Tie as tie
 
 cast-result : tie.Need-cast-result
 cast-result c = search needs
