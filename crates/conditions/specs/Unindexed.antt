@@ -3,13 +3,13 @@ use Prim.Native.Nat.{ℕ}
 use mathlib.Core.List.{List}
 use Rattle.protection.specs.Form.{ProtectList}
 use Rattle.machine.specs.Back.{backed}
-use Rattle.machine.specs.Machine.{Machine, committed}
-use Rattle.machine.specs.Run.{repeated, admitted, entryOf}
-use Rattle.machine.specs.Step.{Outcome, outcome, onward}
+use Rattle.machine.specs.Machine.{Machine}
+use Rattle.machine.specs.Run.{stepsBy, admitted, entryOf}
+use Rattle.machine.specs.Step.{Outcome, steppedBy}
 use Rattle.machine.specs.Unindexed.{unindexedVerdict}
 use Rattle.conditions.specs.Trail.{Call, step, run, back}
 
 unfoldable pub unindexedCalled : List ℕ → ProtectList → Call → Machine → Outcome Machine
-unindexedCalled d p step x = onward (unindexedVerdict d p x) x (λ e. committed e x) (λ y. outcome y 0 0)
-unindexedCalled d p (run n) x = admitted (entryOf d p x) x (repeated (unindexedVerdict d p) (λ y e. committed e y) n x)
+unindexedCalled d p step x = steppedBy (unindexedVerdict d p) x
+unindexedCalled d p (run n) x = admitted (entryOf d p x) x (stepsBy (unindexedVerdict d p) n x)
 unindexedCalled d p back x = backed p x

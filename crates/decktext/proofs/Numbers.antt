@@ -14,7 +14,7 @@ use Rattle.protection.specs.Form.{holds}
 use Rattle.hexfloat.proofs.Answers.{gives-inj, provided-gives, StopsBy, cond-by, provided-by, then-by, then-gives}
 use Rattle.decktext.specs.Text.{Line, ended, unended, linesOf, same}
 use Rattle.decktext.specs.Format.{deckHeading, storageHeading, orderOf, halfwordOf}
-use Rattle.decktext.specs.Read.{Buffers, refused, taken, outcome, Wanted, heading, order, storage, halfword, Progress, start, Given, headed, ordered, parted, stored, orderFits, halfwordFits, lineAs, lineRead, progressed, Read, whole, faulty, linesRead, concludedWith, readText}
+use Rattle.decktext.specs.Read.{Buffers, refused, taken, outcome, Wanted, heading, order, storage, halfword, Progress, start, Given, headed, ordered, parted, stored, orderFits, halfwordFits, lineAs, lineRead, progressed, Read, whole, faulty, linesReadBy, linesRead, concludedWith, readText}
 use Rattle.decktext.specs.Theorems.{Through, Faulty, Numbered, count, malformed, noRoom, aboveLimit, upToEmpty, afterFirst, orderLines}
 use Rattle.decktext.proofs.Answers.{Is16or17, only-either}
 use Rattle.decktext.proofs.Forms.{Sound, first, anOrder, parting, second, aHalfword, heading-given, order-only, halfword-only}
@@ -117,7 +117,7 @@ unfolding lineRead
 heading-line b l g h = sym (heading-given (same l deckHeading) g h)
 
 text-count : (ls : List Line) (b : Buffers) (q : Progress) → linesRead ls (start b) 1 ≡ whole q → q .count ≡ length (upToEmpty (afterFirst ls))
-unfolding linesRead progressed
+unfolding linesReadBy progressed
 text-count [] b q h = other h
 text-count (unended l ∷ ls) b q h = other h
 text-count (ended l ∷ ls) b q h =

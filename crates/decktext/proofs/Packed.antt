@@ -15,7 +15,7 @@ use Rattle.hexfloat.proofs.Answers.{provided-same, then-same}
 use Rattle.protection.proofs.Unpacked.{unpacked-length}
 use Rattle.decktext.specs.Text.{Line, ended, unended, linesOf}
 use Rattle.decktext.specs.Format.{Halfword, halfwordOf}
-use Rattle.decktext.specs.Read.{Buffers, refused, outcome, Wanted, heading, order, storage, halfword, Progress, start, Given, headed, ordered, parted, stored, halfwordFits, lineAs, lineRead, bufferedWith, progressed, Read, whole, faulty, endRead, readOn, linesRead, concludedWith, readText}
+use Rattle.decktext.specs.Read.{Buffers, refused, outcome, Wanted, heading, order, storage, halfword, Progress, start, Given, headed, ordered, parted, stored, halfwordFits, lineAs, lineRead, bufferedWith, progressed, Read, whole, faulty, endRead, readOn, linesReadBy, linesRead, concludedWith, readText}
 use Rattle.decktext.specs.Theorems.{packedWith, standsFor}
 use Rattle.decktext.proofs.Forms.{Fits, sound-fits}
 use Rattle.decktext.proofs.Marks.{marked-unpacked}
@@ -92,7 +92,7 @@ on-alike (gives g) p k rest h = h g refl
 on-alike (stops n) p k rest h = refl
 
 lines-alike : (ls : List Line) (p : Progress) (k : ℕ) → Packed (p .held .memory) (p .held .protect) → linesRead ls (asBytes p) k ≡ readAsBytes (linesRead ls p k)
-unfolding linesRead lineRead
+unfolding linesReadBy lineRead
 lines-alike [] p k packed = end-alike (p .wanted) p k
 lines-alike (unended l ∷ ls) p k packed = refl
 lines-alike (ended l ∷ ls) p k packed =

@@ -10,7 +10,7 @@ use Rattle.orders.specs.Order.{orderAt}
 use Rattle.protection.specs.Form.{isProtected, withMark}
 use Rattle.protection.specs.Bits.{bitForm}
 use Rattle.decktext.specs.Text.{Line, ended, unended}
-use Rattle.decktext.specs.Read.{Wanted, heading, order, storage, halfword, Progress, Given, headed, ordered, parted, stored, lineRead, bufferedWith, progressed, Read, whole, faulty, endRead, readOn, linesRead}
+use Rattle.decktext.specs.Read.{Wanted, heading, order, storage, halfword, Progress, Given, headed, ordered, parted, stored, lineRead, bufferedWith, progressed, Read, whole, faulty, endRead, readOn, linesReadBy, linesRead}
 use Rattle.decktext.specs.Theorems.{Through, Faulty}
 use Rattle.decktext.proofs.Forms.{Sound, first, anOrder, parting, second, aHalfword, sound}
 use Rattle.decktext.proofs.Cells.{order-kept}
@@ -25,7 +25,7 @@ read-on (gives g) p q k rest h = (g, refl, h)
 read-on (stops n) p q k rest h = other h
 
 pub through : (ls : List Line) (p q : Progress) (k : ℕ) → linesRead ls p k ≡ whole q → Through ls p q
-unfolding linesRead
+unfolding linesReadBy
 through [] p q k h = end-whole (p .wanted) p q k h
 through (unended l ∷ ls) p q k h = other h
 through (ended l ∷ ls) p q k h =
@@ -33,7 +33,7 @@ through (ended l ∷ ls) p q k h =
     (r .0, r .1, through ls (progressed (r .0) p) q (k + 1) (r .2))
 
 pub skip : (before rest : List Line) (p q : Progress) (k : ℕ) → Through before p q → linesRead (before ++ rest) p k ≡ linesRead rest q (k + length before)
-unfolding linesRead
+unfolding linesReadBy
 skip [] rest p q k h = let z : k ≡ k + 0 = omega arith in rw (h, ← z)
 skip (unended l ∷ before) rest p q k h = absurd h
 skip (ended l ∷ before) rest p q k h =
@@ -93,7 +93,7 @@ fault-on l ls p k n j (gives g) e h rest = later l ls p k n j g e (rest g h)
 fault-on l ls p k n j (stops m) e h rest = at-once (ended l ∷ ls) p k n j (faulty-line h) (e ∙ ap (λ (x : ℕ). stops x) (faulty-number h))
 
 pub first-fault : (ls : List Line) (p : Progress) (k n j : ℕ) → linesRead ls p k ≡ faulty n j → Fault ls p k n j
-unfolding linesRead
+unfolding linesReadBy
 first-fault [] p k n j h = end-fault (p .wanted) p k n j refl h
 first-fault (unended l ∷ ls) p k n j h = at-once (unended l ∷ ls) p k n j (faulty-line h) (sym (faulty-number h))
 first-fault (ended l ∷ ls) p k n j h = fault-on l ls p k n j (lineRead p l) refl h (λ g r. first-fault ls (progressed g p) (k + 1) n j r)

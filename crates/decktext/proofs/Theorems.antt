@@ -10,7 +10,7 @@ use Rattle.orders.specs.Order.{orderAt}
 use Rattle.protection.specs.Form.{isProtected, withMark}
 use Rattle.protection.specs.Bits.{bitForm}
 use Rattle.decktext.specs.Text.{Line, ended, linesOf}
-use Rattle.decktext.specs.Read.{Buffers, refused, taken, Outcome, Progress, start, Given, ordered, stored, order, lineRead, bufferedWith, progressed, Read, whole, faulty, concludedWith, linesRead, readText}
+use Rattle.decktext.specs.Read.{Buffers, refused, taken, Outcome, Progress, start, Given, ordered, stored, order, lineRead, bufferedWith, progressed, Read, whole, faulty, concludedWith, linesReadBy, linesRead, readText}
 use Rattle.decktext.specs.Theorems.{Through, FirstFault, Written, Reader}
 use Rattle.decktext.proofs.Cells.{order-put}
 use Rattle.decktext.proofs.Forms.{sound-fits}
@@ -48,7 +48,7 @@ refusal t b n k l h =
 module _ (t : List ℕ) (b : Buffers) (n : ℕ) (taken-in : readText t b .said ≡ taken n) (before after : List Line) (line : List ℕ) (p : Progress)
     (cut : linesOf t ≡ before ++ (ended line ∷ after)) (gone : Through before (start b) p) (g : Given) (given : lineRead p line ≡ gives g) where
   later : linesRead after (progressed g p) (1 + length before + 1) ≡ whole (accepted t b n taken-in .given)
-  unfolding linesRead
+  unfolding linesReadBy
   later =
       let e : linesRead (ended line ∷ after) p (1 + length before) ≡ whole (accepted t b n taken-in .given) =
       sym (skip before (ended line ∷ after) (start b) p 1 gone) ∙ ap (λ (ls : List Line). linesRead ls (start b) 1) (sym cut) ∙ accepted t b n taken-in .lines in

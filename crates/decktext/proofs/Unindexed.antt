@@ -11,8 +11,8 @@ use Rattle.orders.specs.Unindexed.{unindexedRow, unindexedLegal, NoIndex}
 use Rattle.orders.proofs.Unindexed.{legal-unindexed}
 use Rattle.decktext.specs.Text.{Line, ended, unended, linesOf, same}
 use Rattle.decktext.specs.Format.{passes, orderOf}
-use Rattle.decktext.specs.Read.{Buffers, Wanted, heading, order, storage, halfword, Progress, start, Given, parted, orderFits, lineAs, lineRead, progressed, Read, readOn, linesRead, readText}
-use Rattle.decktext.specs.Unindexed.{unindexedOrderOf, unindexedLineAs, unindexedLinesRead, unindexedReadText, NoIndexLine, NoIndexLines}
+use Rattle.decktext.specs.Read.{Buffers, Wanted, heading, order, storage, halfword, Progress, start, Given, parted, orderFits, lineBy, lineAs, lineRead, progressed, Read, readOn, linesReadBy, linesRead, readText}
+use Rattle.decktext.specs.Unindexed.{unindexedOrderOf, unindexedLineRead, unindexedReadText, NoIndexLine, NoIndexLines}
 use Rattle.decktext.proofs.Forms.{order-legal}
 
 passes-unindexed : (o : Order) → NoIndex o → passes (unindexedLegal o) ≡ passes (legalOf o)
@@ -31,7 +31,7 @@ order-unindexed line none = cases (orderOf line) refl
     cases (gives o) e = rw (passes-unindexed o (none o e) ∙ order-legal line o e)
     cases (stops n) e = refl
 
-line-unindexed : (w : Wanted) (p : Progress) (line : List ℕ) → NoIndexLine (ended line) → lineAs w p line ≡ unindexedLineAs w p line
+line-unindexed : (w : Wanted) (p : Progress) (line : List ℕ) → NoIndexLine (ended line) → lineAs w p line ≡ lineBy unindexedOrderOf w p line
 line-unindexed heading p line none = refl
 line-unindexed order p line none =
     ap (λ (r : Answer Order). cond (same line []) (gives parted) (andThen r (orderFits p))) (order-unindexed line none)
@@ -44,13 +44,13 @@ on-same : (a : Answer Given) (p : Progress) (k : ℕ) (f g : Progress → Read) 
 on-same (gives x) p k f g h = h (progressed x p)
 on-same (stops n) p k f g h = refl
 
-lines-unindexed : (ls : List Line) (p : Progress) (k : ℕ) → NoIndexLines ls → linesRead ls p k ≡ unindexedLinesRead ls p k
-unfolding linesRead lineRead unindexedLinesRead NoIndexLines
+lines-unindexed : (ls : List Line) (p : Progress) (k : ℕ) → NoIndexLines ls → linesRead ls p k ≡ linesReadBy unindexedLineRead ls p k
+unfolding linesReadBy lineRead NoIndexLines
 lines-unindexed [] p k none = refl
 lines-unindexed (unended l ∷ ls) p k none = refl
 lines-unindexed (ended l ∷ ls) p k none =
     rw (line-unindexed (p .wanted) p l (none .0))
-    (on-same (unindexedLineAs (p .wanted) p l) p k (λ q. linesRead ls q (k + 1)) (λ q. unindexedLinesRead ls q (k + 1)) (λ q. lines-unindexed ls q (k + 1) (none .1)))
+    (on-same (unindexedLineRead p l) p k (λ q. linesRead ls q (k + 1)) (λ q. linesReadBy unindexedLineRead ls q (k + 1)) (λ q. lines-unindexed ls q (k + 1) (none .1)))
 
 pub unindexed : (t : List ℕ) (b : Buffers) → NoIndexLines (linesOf t) → readText t b ≡ unindexedReadText t b
 unfolding readText unindexedReadText

@@ -12,7 +12,7 @@ use Rattle.decktext.specs.declared.line.Sizes.{Sizes}
 use Rattle.decktext.specs.declared.fault.Fault.{Fault}
 use Rattle.decktext.specs.Fault.{faultNumber}
 use Rattle.decktext.specs.Text.{linesOf}
-use Rattle.decktext.specs.Read.{Buffers, refused, saysReading, Wanted, heading, order, storage, halfword, Progress, start as begun, Given, headed, ordered, parted, stored, lineRead, bufferedWith, progressed, Read, whole, faulty, endRead, linesRead}
+use Rattle.decktext.specs.Read.{Buffers, refused, saysReading, Wanted, heading, order, storage, halfword, Progress, start as begun, Given, headed, ordered, parted, stored, lineRead, bufferedWith, progressed, Read, whole, faulty, endRead, linesReadBy, linesRead}
 use Rattle.decktext.specs.Walk.{Stretch, Storable, wantedOf, progressOf, Sized, endSaid, concluded, saidOf, Walked}
 use Rattle.decktext.specs.Staged.{placeAfter, valuesIn, halfwordsWith, stagedWith, replayed, Landing}
 use Rattle.decktext.proofs.Forms.{Sound, first, anOrder, parting, second, aHalfword, sound, sound-fits}
@@ -119,7 +119,7 @@ module _ {t : List ℕ} {b : Buffers} {s : Sizes} {p : Place} {at line k : ℕ} 
       pub on : length t ≤ 32768 → (next : Place) → ((x : Buffers) → progressOf next (bufferedWith g (p .count) x) ≡ progressed g (progressOf p x))
           → (to : ℕ) → to ≡ e + 1 → (more : ℕ) → more ≡ halfwordsWith g k → (after : List ℕ) → after ≡ stagedWith g (p .count) k staged
           → Walking t b s next to (line + 1) more after
-      unfolding linesRead
+      unfolding linesReadBy
       on limit next moved to past more halfwords after put =
           let held = replayed staged (p .count) k b in
           let wide = stageable limit in
@@ -141,11 +141,11 @@ module _ {t : List ℕ} {b : Buffers} {s : Sizes} {p : Place} {at line k : ℕ} 
           }
 
     pub stopped : e < length t → (n : ℕ) → lineRead (reached p k staged b) (part at e t) ≡ stops n → textRead t b ≡ faulty n line
-    unfolding linesRead
+    unfolding linesReadBy
     stopped l n f = r .rest ∙ rw (line-ended m l, f)
 
     pub unfinished : at < length t → e ≡ length t → textRead t b ≡ faulty 16 line
-    unfolding linesRead
+    unfolding linesReadBy
     unfinished l q = r .rest ∙ rw (line-unended m l q)
 
 -- ---- where the walk is left
@@ -190,7 +190,7 @@ module _ {t : List ℕ} {b : Buffers} {s : Sizes} {p : Place} {at line k : ℕ} 
   }
 
   end-read : length t ≤ at → textRead t b ≡ endRead (wantedOf (p .wanted)) (reached p k staged b) line
-  unfolding linesRead
+  unfolding linesReadBy
   end-read l = r .rest ∙ rw (no-line t at l)
 
   -- at the end of the text

@@ -84,12 +84,15 @@ halfwordFits p h =
     (provided (holds (p .held .protect) (h .at)) 17
     (gives (stored h))))
 
--- one line: what it gives, or its fault, 16 before 17
+-- one line, given how an order line is read: what it gives, or its fault, 16 before 17
+abbrev pub lineBy : (List ℕ → Answer Order) → Wanted → Progress → List ℕ → Answer Given
+lineBy orders heading p line = provided (same line deckHeading) 16 (gives headed)
+lineBy orders order p line = cond (same line []) (gives parted) (andThen (orders line) (orderFits p))
+lineBy orders storage p line = provided (same line storageHeading) 16 (gives headed)
+lineBy orders halfword p line = andThen (halfwordOf line) (halfwordFits p)
+
 abbrev pub lineAs : Wanted → Progress → List ℕ → Answer Given
-lineAs heading p line = provided (same line deckHeading) 16 (gives headed)
-lineAs order p line = cond (same line []) (gives parted) (andThen (orderOf line) (orderFits p))
-lineAs storage p line = provided (same line storageHeading) 16 (gives headed)
-lineAs halfword p line = andThen (halfwordOf line) (halfwordFits p)
+lineAs w p line = lineBy orderOf w p line
 
 unfoldable pub lineRead : Progress → List ℕ → Answer Given
 lineRead p line = lineAs (p .wanted) p line
@@ -136,10 +139,13 @@ abbrev pub readOn : Answer Given → Progress → ℕ → (Progress → Read) �
 readOn (stops n) p k rest = faulty n k
 readOn (gives g) p k rest = rest (progressed g p)
 
-unfoldable pub linesRead : List Line → Progress → ℕ → Read
-linesRead [] p k = endRead (p .wanted) p k
-linesRead (unended l ∷ ls) p k = faulty 16 k
-linesRead (ended l ∷ ls) p k = readOn (lineRead p l) p k (λ q. linesRead ls q (k + 1))
+unfoldable pub linesReadBy : (Progress → List ℕ → Answer Given) → List Line → Progress → ℕ → Read
+linesReadBy f [] p k = endRead (p .wanted) p k
+linesReadBy f (unended l ∷ ls) p k = faulty 16 k
+linesReadBy f (ended l ∷ ls) p k = readOn (f p l) p k (λ q. linesReadBy f ls q (k + 1))
+
+abbrev pub linesRead : List Line → Progress → ℕ → Read
+linesRead ls p k = linesReadBy lineRead ls p k
 
 -- a refused text leaves all buffers
 abbrev pub concludedWith : Buffers → Read → Outcome
@@ -147,5 +153,8 @@ concludedWith b (whole p) = outcome (p .held) (taken (p .count))
 concludedWith b (faulty n k) = outcome b (refused n k)
 
 -- text above its byte limit is refused first
+abbrev pub readTextBy : (Progress → List ℕ → Answer Given) → List ℕ → Buffers → Outcome
+readTextBy f t b = cond (ltb 32768 (length t)) (outcome b (refused 17 0)) (concludedWith b (linesReadBy f (linesOf t) (start b) 1))
+
 unfoldable pub readText : List ℕ → Buffers → Outcome
-readText t b = cond (ltb 32768 (length t)) (outcome b (refused 17 0)) (concludedWith b (linesRead (linesOf t) (start b) 1))
+readText t b = readTextBy lineRead t b

@@ -16,9 +16,12 @@ unfoldable pub repeated : {W : Type 0} → (W → Answer Effect) → (W → Effe
 repeated verdict take zero x = outcome x 0 0
 repeated verdict take (suc n) x = onward (verdict x) x (take x) (repeated verdict take n)
 
--- of the machine
+-- of the machine, given how a step is decided
+abbrev pub stepsBy : (Machine → Answer Effect) → ℕ → Machine → Outcome Machine
+stepsBy verdict n x = repeated verdict (λ y e. committed e y) n x
+
 abbrev pub stepsOf : List ℕ → ProtectList → ℕ → Machine → Outcome Machine
-stepsOf d p n x = repeated (verdictOf d p) (λ y e. committed e y) n x
+stepsOf d p n x = stepsBy (verdictOf d p) n x
 
 -- checks 1 to 3 come first, at a limit of 0 too
 abbrev pub admitted : {W : Type 0} → ℕ → W → Outcome W → Outcome W

@@ -45,5 +45,9 @@ nextAddress d x = addressOf (nextOrder d x) (x .state .registers .general)
 abbrev pub verdictOf : List ℕ → ProtectList → Machine → Answer Effect
 verdictOf d p x = decided d p (x .state .registers) (x .state .used) (x .memory) (length (x .journal))
 
+-- a step of the machine, given how it is decided
+abbrev pub steppedBy : (Machine → Answer Effect) → Machine → Outcome Machine
+steppedBy verdict x = onward (verdict x) x (λ e. committed e x) (λ y. outcome y 0 0)
+
 unfoldable pub stepped : List ℕ → ProtectList → Machine → Outcome Machine
-stepped d p x = onward (verdictOf d p x) x (λ e. committed e x) (λ y. outcome y 0 0)
+stepped d p x = steppedBy (verdictOf d p) x
