@@ -7,13 +7,14 @@ struct Status {
     condition: u8,
     mask: u8,
     pointer: u16,
+    selector: u32,
 }
 
 #[repr(C)]
 #[derive(Clone, Copy)]
 pub struct Registers {
     float: [u32; 8],
-    general: [u32; 8],
+    general: [[u32; 8]; 2],
     status: Status,
 }
 
@@ -96,8 +97,8 @@ extern "C" {
 
 impl From<State> for Lent {
     fn from(s: State) -> Lent {
-        let State { float, general, code, mask, pointer, used } = s;
-        let status = Status { condition: code, mask, pointer };
+        let State { float, general, selector, code, mask, pointer, used } = s;
+        let status = Status { condition: code, mask, pointer, selector };
         Lent { registers: Registers { float, general, status }, used }
     }
 }
@@ -105,7 +106,8 @@ impl From<State> for Lent {
 impl From<Lent> for State {
     fn from(l: Lent) -> State {
         let Registers { float, general, status } = l.registers;
-        State { float, general, code: status.condition, mask: status.mask, pointer: status.pointer, used: l.used }
+        let Status { condition, mask, pointer, selector } = status;
+        State { float, general, selector, code: condition, mask, pointer, used: l.used }
     }
 }
 

@@ -5,7 +5,9 @@ use std::cmp::Ordering;
 #[derive(Clone, Copy, PartialEq, Eq, Debug, Default)]
 pub struct State {
     pub float: [u32; 8],
-    pub general: [u32; 8],
+    /// Two sets; the selector names the one in use.
+    pub general: [[u32; 8]; 2],
+    pub selector: u32,
     pub code: u8,
     pub mask: u8,
     pub pointer: u16,
@@ -262,7 +264,7 @@ fn form(code: u16) -> Option<(u16, u16, bool, usize)> {
         1 | 4 | 5 | 7 | 9 | 10 | 11 | 13 | 23 | 25 | 27 | 29 | 31 | 33 => (7, 7, false, 0),
         2 | 6 | 12 | 15 | 17 | 18 | 24 | 26 | 32 => (7, 7, true, 2),
         3 | 8 | 14 | 16 | 28 | 30 | 34 => (7, 7, true, 4),
-        19 => (0, 1, false, 0),
+        19 | 35 => (0, 1, false, 0),
         20 | 21 => (7, 0, true, 0),
         22 => (0, 0, false, 0),
         _ => return None,
@@ -287,13 +289,13 @@ fn addend(code: u16, n: Number) -> Number {
     Number { negative: n.negative != subtract, ..n }
 }
 
-/// What a step overwrites.
+/// What a step overwrites. A general register is named by its set and its number.
 #[derive(Clone, Copy)]
 enum Change {
     Nothing,
     Float(usize, u32),
     Pair(usize, u32, u32),
-    General(usize, u32),
+    General(usize, usize, u32),
     Two(usize, u32),
     Four(usize, u32, u32),
 }
@@ -302,6 +304,7 @@ struct Effect {
     change: Change,
     code: u8,
     mask: u8,
+    selector: u32,
     pointer: u16,
 }
 
@@ -314,11 +317,16 @@ fn put(memory: &mut [u16], at: usize, w: u32) {
     memory[at + 1] = w as u16;
 }
 
+/// The general registers that orders name (document 02, Job 8).
+fn selected(s: &State) -> &[u32; 8] {
+    &s.general[s.selector as usize]
+}
+
 /// Where the storage operand is (document 02, Job 7): r2 names an index register, unless it is 0.
 fn address(s: &State, cells: [u16; 4]) -> usize {
     let index = match cells[2] {
         0 => 0,
-        r => s.general[r as usize] & 0xffff,
+        r => selected(s)[r as usize] & 0xffff,
     };
     cells[3] as usize + index as usize
 }
@@ -333,7 +341,7 @@ fn held(s: &State, memory: usize, protect: usize, journal: usize) -> Result<(), 
     if memory > 32_768 || journal > 16_384 || protect != memory.div_ceil(8) {
         return Err(2);
     }
-    if s.code == 2 || s.code > 3 || s.mask > 1 || s.used as usize > journal / 4 {
+    if s.code == 2 || s.code > 3 || s.mask > 1 || s.selector > 1 || s.used as usize > journal / 4 {
         return Err(3);
     }
     Ok(())
@@ -350,7 +358,8 @@ fn entry(s: &State, deck: usize, memory: usize, protect: usize, journal: usize) 
 fn effect(s: &State, cells: [u16; 4], memory: &[u16]) -> Result<Effect, u8> {
     let [code, r1, r2, at] = cells;
     let (r1, r2, a) = (r1 as usize, r2 as usize, address(s, cells));
-    let next = |change, code| Effect { change, code, mask: s.mask, pointer: s.pointer + 1 };
+    let next = |change, code| Effect { change, code, mask: s.mask, selector: s.selector, pointer: s.pointer + 1 };
+    let general = |r, w| Change::General(s.selector as usize, r, w);
     let pair = |r: usize| (s.float[r], s.float[(r + 1) % 8]);
     let second_short = || if form(code).unwrap().2 { word(memory, a) } else { s.float[r2] };
     let second_long = || {
@@ -381,10 +390,10 @@ fn effect(s: &State, cells: [u16; 4], memory: &[u16]) -> Result<Effect, u8> {
         }
         9 => {
             let (w, cc) = to_fixed(s.float[r2])?;
-            next(Change::General(r1, w), cc)
+            next(general(r1, w), cc)
         }
         10 => {
-            let (w, cc) = to_float(s.general[r2]);
+            let (w, cc) = to_float(selected(s)[r2]);
             next(Change::Float(r1, w), cc)
         }
         11 | 12 => {
@@ -408,9 +417,9 @@ fn effect(s: &State, cells: [u16; 4], memory: &[u16]) -> Result<Effect, u8> {
                 v if v < 0 => 3,
                 _ => 1,
             };
-            next(Change::General(r1, w), cc)
+            next(general(r1, w), cc)
         }
-        18 => next(Change::Two(a, s.general[r1]), s.code),
+        18 => next(Change::Two(a, selected(s)[r1]), s.code),
         19 => Effect { mask: r2 as u8, ..next(Change::Nothing, s.code) },
         20 => {
             let bit = match s.code {
@@ -425,8 +434,8 @@ fn effect(s: &State, cells: [u16; 4], memory: &[u16]) -> Result<Effect, u8> {
             e
         }
         21 => {
-            let w = s.general[r1].wrapping_sub(1);
-            let mut e = next(Change::General(r1, w), s.code);
+            let w = selected(s)[r1].wrapping_sub(1);
+            let mut e = next(general(r1, w), s.code);
             if w != 0 {
                 e.pointer = at;
             }
@@ -455,6 +464,7 @@ fn effect(s: &State, cells: [u16; 4], memory: &[u16]) -> Result<Effect, u8> {
             let (h, l) = pack_long(multiply(long(a, b), long(c, d), 14, 14, s.mask == 1)?);
             next(Change::Pair(r1, h, l), s.code)
         }
+        35 => Effect { selector: r2 as u32, ..next(Change::Nothing, s.code) },
         _ => return Err(12),
     })
 }
@@ -534,7 +544,7 @@ fn old(s: &State, memory: &[u16], c: Change) -> (u32, u32, u32, u32) {
         Change::Nothing => (0, 0, 0, 0),
         Change::Float(r, _) => (1, r as u32, s.float[r], 0),
         Change::Pair(r, _, _) => (2, r as u32, s.float[r], s.float[(r + 1) % 8]),
-        Change::General(r, _) => (3, r as u32, s.general[r], 0),
+        Change::General(set, r, _) => (3, r as u32, s.general[set][r], 0),
         Change::Two(a, _) => (4, a as u32, word(memory, a), 0),
         Change::Four(a, _, _) => (5, a as u32, word(memory, a), word(memory, a + 2)),
     }
@@ -548,7 +558,7 @@ fn apply(s: &mut State, memory: &mut [u16], e: &Effect) {
             s.float[r] = h;
             s.float[(r + 1) % 8] = l;
         }
-        Change::General(r, w) => s.general[r] = w,
+        Change::General(set, r, w) => s.general[set][r] = w,
         Change::Two(a, w) => put(memory, a, w),
         Change::Four(a, h, l) => {
             put(memory, a, h);
@@ -557,6 +567,7 @@ fn apply(s: &mut State, memory: &mut [u16], e: &Effect) {
     }
     s.code = e.code;
     s.mask = e.mask;
+    s.selector = e.selector;
     s.pointer = e.pointer;
 }
 
@@ -567,7 +578,7 @@ pub fn step(s: &mut State, b: &mut Buffers) -> u8 {
         Err(n) => return n,
     };
     let (kind, place, left, right) = old(s, &b.memory, e.change);
-    let head = s.pointer as u32 | (s.code as u32) << 16 | (s.mask as u32) << 18 | kind << 19;
+    let head = s.pointer as u32 | (s.code as u32) << 16 | (s.mask as u32) << 18 | kind << 19 | s.selector << 22;
     let k = 4 * s.used as usize;
     b.journal[k..k + 4].copy_from_slice(&[head, place, left, right]);
     apply(s, &mut b.memory, &e);
@@ -601,11 +612,15 @@ pub fn back(s: &mut State, b: &mut Buffers) -> u8 {
     let k = 4 * (s.used as usize - 1);
     let [head, place, left, right] = [b.journal[k], b.journal[k + 1], b.journal[k + 2], b.journal[k + 3]];
     let r = place as usize;
-    let change = match head >> 19 {
+    let selector = head >> 22;
+    if selector > 1 {
+        return 15;
+    }
+    let change = match head >> 19 & 7 {
         0 if place == 0 && left == 0 && right == 0 => Change::Nothing,
         1 if r < 8 && right == 0 => Change::Float(r, left),
         2 if r < 8 => Change::Pair(r, left, right),
-        3 if r < 8 && right == 0 => Change::General(r, left),
+        3 if r < 8 && right == 0 => Change::General(selector as usize, r, left),
         4 if right == 0 => Change::Two(r, left),
         5 => Change::Four(r, left, right),
         _ => return 15,
@@ -622,6 +637,7 @@ pub fn back(s: &mut State, b: &mut Buffers) -> u8 {
         change,
         code: (head >> 16 & 3) as u8,
         mask: (head >> 18 & 1) as u8,
+        selector,
         pointer: head as u16,
     };
     if e.code == 2 {
@@ -634,10 +650,10 @@ pub fn back(s: &mut State, b: &mut Buffers) -> u8 {
 
 // ---- deck text
 
-pub const MNEMONICS: [&str; 34] = [
+pub const MNEMONICS: [&str; 35] = [
     "LER", "LE", "LED", "LECR", "CER", "CE", "CEDR", "CED", "CVFX", "CVFL", "DER", "DE", "DEDR", "DED", "STE",
     "STED", "L", "ST", "UM", "JC", "JN", "HALT", "AER", "AE", "SER", "SE", "AEDR", "AED", "SEDR", "SED",
-    "MER", "ME", "MEDR", "MED",
+    "MER", "ME", "MEDR", "MED", "SET",
 ];
 
 fn decimal(v: &[u8]) -> Option<u16> {
@@ -698,6 +714,7 @@ fn mnemonic(v: &[u8]) -> Option<u16> {
         b"ME" => 32,
         b"MEDR" => 33,
         b"MED" => 34,
+        b"SET" => 35,
         _ => return None,
     })
 }

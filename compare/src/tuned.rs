@@ -144,14 +144,26 @@ fn word(m: &[u16], a: usize) -> u32 {
     (m[a] as u32) << 16 | m[a + 1] as u32
 }
 
+/// The selected set. The selector is 0 or 1; its lowest bit is taken to spare the check of an index.
+#[inline(always)]
+fn set(s: &State) -> usize {
+    (s.selector & 1) as usize
+}
+
 struct Run<'a> {
-    s: State,
+    s: &'a mut State,
+    /// Mask and selector as they stand in word 0 of a record: they seldom change.
+    held: u32,
     journal: &'a mut [u32],
+}
+#[inline(always)]
+fn held(s: &State) -> u32 {
+    (s.mask as u32) << 18 | s.selector << 22
 }
 impl Run<'_> {
     #[inline(always)]
     fn record(&mut self, kind: u32, place: u32, l: u32, r: u32) {
-        let h = self.s.pointer as u32 | (self.s.code as u32) << 16 | (self.s.mask as u32) << 18 | kind << 19;
+        let h = self.s.pointer as u32 | (self.s.code as u32) << 16 | self.held | kind << 19;
         let k = 4 * self.s.used as usize;
         self.journal[k..k + 4].copy_from_slice(&[h, place, l, r]);
         self.s.used += 1;
@@ -174,31 +186,40 @@ impl Run<'_> {
     }
     #[inline(always)]
     fn general(&mut self, r: usize, w: u32, code: u8, p: u16) {
-        self.record(3, r as u32, self.s.general[r], 0);
-        self.s.general[r] = w;
+        let set = set(self.s);
+        self.record(3, r as u32, self.s.general[set][r], 0);
+        self.s.general[set][r] = w;
         self.s.code = code;
         self.s.pointer = p;
     }
     #[inline(always)]
-    fn nothing(&mut self, code: u8, mask: u8, p: u16) {
+    fn nothing(&mut self, code: u8, p: u16) {
         self.record(0, 0, 0, 0);
         self.s.code = code;
-        self.s.mask = mask;
         self.s.pointer = p;
+    }
+    /// UM and SET.
+    #[inline(always)]
+    fn hold(&mut self, mask: u8, selector: u32, p: u16) {
+        self.record(0, 0, 0, 0);
+        self.s.mask = mask;
+        self.s.selector = selector;
+        self.s.pointer = p;
+        self.held = held(self.s);
     }
 }
 
-const LIMITS: [(u16, u16, u16, u8, u8); 35] = {
-    let mut t = [(0u16, 0u16, 0u16, 0u8, 0u8); 35];
+const LIMITS: [(u16, u16, u16, u8, u8); 36] = {
+    let mut t = [(0u16, 0u16, 0u16, 0u8, 0u8); 36];
     let mut k = 1;
-    while k < 35 {
+    while k < 36 {
         t[k] = match k {
             1 | 4 | 5 | 7 | 9 | 10 | 11 | 13 | 23 | 25 | 27 | 29 | 31 | 33 => (7, 7, 0, 0, 0),
             15 | 18 => (7, 7, 65535, 2, 2),
             16 => (7, 7, 65535, 4, 4),
             2 | 6 | 12 | 17 | 24 | 26 | 32 => (7, 7, 65535, 2, 0),
             3 | 8 | 14 | 28 | 30 | 34 => (7, 7, 65535, 4, 0),
-            19 => (0, 1, 0, 0, 0),
+            19 | 35 => (0, 1, 0, 0, 0),
             22 => (0, 0, 0, 0, 0),
             _ => (7, 0, 65535, 0, 0),
         };
@@ -221,16 +242,16 @@ pub fn run(st: &mut State, b: &mut Buffers, limit: u32) -> (u32, u8) {
     if b.memory.len() > 32_768 || b.journal.len() > 16_384 || b.protect.len() != b.memory.len().div_ceil(8) {
         return (0, 2);
     }
-    if st.code == 2 || st.code > 3 || st.mask > 1 || st.used as usize > b.journal.len() / 4 {
+    if st.code == 2 || st.code > 3 || st.mask > 1 || st.selector > 1 || st.used as usize > b.journal.len() / 4 {
         return (0, 3);
     }
     let room = (b.journal.len() / 4) as u32;
     let (deck, memory, protect) = (&b.deck[..], &mut b.memory[..], &b.protect[..]);
-    let mut m = Run { s: *st, journal: &mut b.journal[..] };
+    let mut m = Run { held: held(st), s: st, journal: &mut b.journal[..] };
     let mut count = 0;
     let mut stop = 0;
     while count < limit {
-        let s = &m.s;
+        let s = &*m.s;
         let p = s.pointer as usize;
         if p >= deck.len() / 4 {
             stop = 4;
@@ -238,7 +259,7 @@ pub fn run(st: &mut State, b: &mut Buffers, limit: u32) -> (u32, u8) {
         }
         let o = &deck[4 * p..4 * p + 4];
         let (code, r1, r2, at) = (o[0], o[1], o[2], o[3]);
-        if code == 0 || code > 34 {
+        if code == 0 || code > 35 {
             stop = 5;
             break;
         }
@@ -256,7 +277,8 @@ pub fn run(st: &mut State, b: &mut Buffers, limit: u32) -> (u32, u8) {
             break;
         }
         let (i, j) = ((r1 & 7) as usize, (r2 & 7) as usize);
-        let a = at as usize + if j == 0 { 0 } else { s.general[j] as u16 as usize };
+        let general = &s.general[set(s)];
+        let a = at as usize + if j == 0 { 0 } else { general[j] as u16 as usize };
         let span = l.3 as usize;
         if span > 0 && a + span > memory.len() {
             stop = 6;
@@ -289,13 +311,13 @@ pub fn run(st: &mut State, b: &mut Buffers, limit: u32) -> (u32, u8) {
             }
             5 | 6 => {
                 let y = if code == 5 { s.float[j] } else { word(memory, a) };
-                m.nothing(compare_short(fa, y), mask, next);
+                m.nothing(compare_short(fa, y), next);
             }
             7 | 8 => {
                 let (h, l) =
                     if code == 7 { (s.float[j], s.float[(j + 1) & 7]) } else { (word(memory, a), word(memory, a + 2)) };
                 let c = compare_long(fa, fr(fa) << 32 | fb as u64, h, fr(h) << 32 | l as u64);
-                m.nothing(c, mask, next);
+                m.nothing(c, next);
             }
             9 => {
                 let w = s.float[j];
@@ -334,7 +356,7 @@ pub fn run(st: &mut State, b: &mut Buffers, limit: u32) -> (u32, u8) {
                 m.general(i, x as u32, c, next);
             }
             10 => {
-                let v = s.general[j] as i32;
+                let v = general[j] as i32;
                 if v == 0 {
                     m.float(i, 0, 0, next);
                 } else {
@@ -371,7 +393,7 @@ pub fn run(st: &mut State, b: &mut Buffers, limit: u32) -> (u32, u8) {
                 }
             }
             15 | 18 => {
-                let w = if code == 15 { fa } else { s.general[i] };
+                let w = if code == 15 { fa } else { general[i] };
                 m.record(4, a as u32, word(memory, a), 0);
                 memory[a] = (w >> 16) as u16;
                 memory[a + 1] = w as u16;
@@ -395,17 +417,17 @@ pub fn run(st: &mut State, b: &mut Buffers, limit: u32) -> (u32, u8) {
                 };
                 m.general(i, w, c, next);
             }
-            19 => m.nothing(cc, r2 as u8, next),
+            19 => m.hold(r2 as u8, s.selector, next),
             20 => {
                 let bit = match cc {
                     0 => 4,
                     1 => 2,
                     _ => 1,
                 };
-                m.nothing(cc, mask, if r1 & bit != 0 { at } else { next });
+                m.nothing(cc, if r1 & bit != 0 { at } else { next });
             }
             21 => {
-                let w = s.general[i].wrapping_sub(1);
+                let w = general[i].wrapping_sub(1);
                 m.general(i, w, cc, if w != 0 { at } else { next });
             }
             23 | 24 | 25 | 26 => {
@@ -454,6 +476,7 @@ pub fn run(st: &mut State, b: &mut Buffers, limit: u32) -> (u32, u8) {
                     Q::Of(c, f) => m.float(i, sign | c << 24 | f as u32, cc, next),
                 }
             }
+            35 => m.hold(mask, r2 as u32, next),
             _ => {
                 let (h, l) = if code == 33 {
                     (s.float[j], s.float[(j + 1) & 7])
@@ -472,7 +495,6 @@ pub fn run(st: &mut State, b: &mut Buffers, limit: u32) -> (u32, u8) {
         }
         count += 1;
     }
-    *st = m.s;
     (count, stop)
 }
 
@@ -624,7 +646,8 @@ fn code(key: u32) -> Option<u16> {
         MER = 31,
         ME = 32,
         MEDR = 33,
-        MED = 34
+        MED = 34,
+        SET = 35
     )
 }
 

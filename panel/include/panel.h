@@ -15,12 +15,13 @@ typedef struct {
     uint8_t condition; /* condition code: 0, 1 or 3 */
     uint8_t mask;      /* underflow mask: 0 or 1 */
     uint16_t pointer;  /* the order that comes next */
+    uint32_t selector; /* the set of general registers in use: 0 or 1 */
 } panel_status;
 
 /* What one user's orders see. A fresh one is all zero. */
 typedef struct {
-    uint32_t floats[8];   /* float registers */
-    uint32_t generals[8]; /* general registers */
+    uint32_t floats[8];      /* float registers */
+    uint32_t generals[2][8]; /* general registers: two sets of eight */
     panel_status status;
 } panel_registers;
 
@@ -46,11 +47,13 @@ typedef struct {
 void panel_fresh(panel_state *state);
 
 /* Takes one step. Returns 0, or the number of the stop (1 to 13); a stop leaves everything as it was.
- * deck: four cells an order (code, r1, r2, at), deck_cells of them. The storage operand of an order that has one is at
- * `at`, and r2 from 1 to 7 adds the lower halfword of that general register to it; the sum is not wrapped, so 65,536 and
- * more are past memory's end (6). protect: one bit a halfword of memory, set if the halfword is protected: address a is
- * bit a % 8 of byte a / 8, the lowest bit being bit 0. protect_bytes is memory_halfwords / 8 rounded up, and nothing else
- * (2); bits past memory's end may be anything and change no answer. journal: four words a record. */
+ * deck: four cells an order (code, r1, r2, at), deck_cells of them. Every general register that an order names, an index
+ * too, is of the selected set, and the other set keeps its contents; SET (code 35) selects set r2, 0 or 1. The storage
+ * operand of an order that has one is at `at`, and r2 from 1 to 7 adds the lower halfword of that general register to it;
+ * the sum is not wrapped, so 65,536 and more are past memory's end (6). protect: one bit a halfword of memory, set if the
+ * halfword is protected: address a is bit a % 8 of byte a / 8, the lowest bit being bit 0. protect_bytes is
+ * memory_halfwords / 8 rounded up, and nothing else (2); bits past memory's end may be anything and change no answer.
+ * journal: four words a record. */
 uint8_t panel_step(panel_state *state, const uint16_t *deck, size_t deck_cells, uint16_t *memory, size_t memory_halfwords,
                    const uint8_t *protect, size_t protect_bytes, uint32_t *journal, size_t journal_words);
 
@@ -60,7 +63,8 @@ panel_answer panel_run(panel_state *state, const uint16_t *deck, size_t deck_cel
                        const uint8_t *protect, size_t protect_bytes, uint32_t *journal, size_t journal_words,
                        uint32_t limit);
 
-/* Takes the last step back. Returns 0, or 2, 3, 14 or 15; a refusal leaves everything as it was. */
+/* Takes the last step back. The set that the record names is selected again, and a general register in it is of that set.
+ * Returns 0, or 2, 3, 14 or 15; a refusal leaves everything as it was. */
 uint8_t panel_back(panel_state *state, uint16_t *memory, size_t memory_halfwords, const uint8_t *protect,
                    size_t protect_bytes, uint32_t *journal, size_t journal_words);
 

@@ -10,7 +10,11 @@ const CALLS: u64 = 1_200_000;
 fn order(r: &mut Random, orders: u64, memory: u64) -> [u16; 4] {
     let mut cells = [0u16; 4];
     loop {
-        cells[0] = r.below(34) as u16 + 1;
+        // SET and the orders of general registers are frequent, so that short decks use both sets
+        cells[0] = match r.below(32) {
+            k @ 0..=7 => [9, 10, 17, 18, 21, 35, 35, 35][k as usize],
+            _ => r.below(35) as u16 + 1,
+        };
         // HALT ends a run, so it is seldom
         if cells[0] != 22 || r.chance(20) {
             break;
@@ -29,7 +33,7 @@ fn order(r: &mut Random, orders: u64, memory: u64) -> [u16; 4] {
             let at = if index == 0 { at } else { at / 2 };
             (cells[1], cells[2], cells[3]) = (register, index, at);
         }
-        19 => cells[2] = register % 2,
+        19 | 35 => cells[2] = register % 2,
         22 => {}
         _ => (cells[1], cells[2]) = (register, r.below(8) as u16),
     }
@@ -39,19 +43,22 @@ fn order(r: &mut Random, orders: u64, memory: u64) -> [u16; 4] {
     cells
 }
 
+/// Often an index, of which the upper halfword does not count, near the start of memory or near where a sum would wrap.
+fn general(r: &mut Random) -> u32 {
+    let upper = (r.next() as u32) << 16;
+    match r.below(10) {
+        0 => r.below(4) as u32,
+        1..=6 => upper | r.below(16) as u32,
+        7 => upper | 65_535 - r.below(40) as u32,
+        _ => r.next() as u32,
+    }
+}
+
 fn state(r: &mut Random) -> State {
     let mut s = State::default();
-    for k in 0..8 {
-        s.float[k] = r.float();
-        // often an index, of which the upper halfword does not count, near the start of memory or near where a sum would wrap
-        let upper = (r.next() as u32) << 16;
-        s.general[k] = match r.below(10) {
-            0 => r.below(4) as u32,
-            1..=6 => upper | r.below(16) as u32,
-            7 => upper | 65_535 - r.below(40) as u32,
-            _ => r.next() as u32,
-        };
-    }
+    s.float = s.float.map(|_| r.float());
+    s.general = s.general.map(|set| set.map(|_| general(r)));
+    s.selector = r.below(2) as u32;
     s.code = [0, 1, 3][r.below(3) as usize];
     s.mask = r.below(2) as u8;
     s
@@ -59,11 +66,48 @@ fn state(r: &mut Random) -> State {
 
 /// A state that no call leaves behind.
 fn wild(r: &mut Random, s: &mut State) {
-    match r.below(4) {
+    match r.below(5) {
         0 => s.code = r.next() as u8,
         1 => s.mask = r.next() as u8,
         2 => s.used = r.next() as u32 >> r.below(32),
+        // mostly one high bit above a legal selector, which a reader of a narrower word would miss
+        3 => s.selector = r.below(2) as u32 | 1 << r.below(32),
         _ => s.pointer = r.next() as u16,
+    }
+}
+
+/// A record of the form that no step wrote: any kind and either set, whatever set is selected now.
+fn record(r: &mut Random, memory: u64) -> [u32; 4] {
+    let kind = r.below(6);
+    let status = r.below(65_536) >> r.below(17) | [0, 1, 3][r.below(3) as usize] << 16 | r.below(2) << 18;
+    let place = match kind {
+        0 => 0,
+        1..=3 => r.below(8),
+        _ => r.below(memory + 1),
+    };
+    let (left, right) = match kind {
+        0 => (0, 0),
+        2 | 5 => (r.next(), r.next()),
+        _ => (r.next(), 0),
+    };
+    [status | kind << 19 | r.below(2) << 22, place, left, right].map(|word| word as u32)
+}
+
+/// Damages the record that a back step reads: another in its place, or one bit of its code, mask, kind, set or above them
+/// turned; now and then any word, too.
+fn damage(r: &mut Random, s: &State, b: &mut Buffers) {
+    let end = 4 * s.used as usize;
+    if end == 0 || end > b.journal.len() {
+        return;
+    }
+    let last = &mut b.journal[end - 4..end];
+    if r.chance(3) {
+        last[0] ^= 1 << (16 + r.below(16));
+    } else {
+        last.copy_from_slice(&record(r, b.memory.len() as u64));
+    }
+    if r.chance(6) {
+        last[r.below(4) as usize] = r.next() as u32 >> r.below(32);
     }
 }
 
@@ -129,26 +173,18 @@ fn machine(r: &mut Random) -> u64 {
     if !r.chance(4) {
         alike(r, &mut s, &mut b.memory);
     }
-    if r.chance(6) {
-        wild(r, &mut s);
-    }
     if r.chance(10) {
         s.used = (b.journal.len() / 4) as u32;
     }
     let calls = 4 + r.below(60);
     for k in 0..calls {
-        if r.chance(60) {
-            wild(r, &mut s);
-        }
-        if r.chance(60) && !b.journal.is_empty() {
-            let at = r.below(b.journal.len() as u64) as usize;
-            b.journal[at] = r.next() as u32 >> r.below(32);
-        }
+        let (sound, call) = (s, r.below(10));
+        disturb(r, &mut s, &mut b, call < 3);
         ask(s, &b);
         let mut lent = Lent::from(s);
         let mut memory = Guarded::new(&b.memory, 0xA5A5);
         let mut journal = Guarded::new(&b.journal, 0xA5A5_A5A5);
-        let (ours, theirs) = match r.below(10) {
+        let (ours, theirs) = match call {
             0 | 1 | 2 => (
                 (0, reference::back(&mut s, &mut b)),
                 (0, panel::back(&mut lent, memory.inner(), &b.protect, journal.inner())),
@@ -171,8 +207,30 @@ fn machine(r: &mut Random) -> u64 {
         };
         let same = ours == theirs && State::from(lent) == s && memory.is(&b.memory) && journal.is(&b.journal);
         assert!(same, "call {k}: {ours:?} here, {theirs:?} in the panel library\n{s:?}\n{:?}\n{b:?}", State::from(lent));
+        // else every later call would be a 3 too
+        if ours.1 == 3 {
+            s = sound;
+        }
     }
     calls
+}
+
+/// What may happen between two calls; `back` if a back step comes next.
+fn disturb(r: &mut Random, s: &mut State, b: &mut Buffers, back: bool) {
+    if r.chance(20) {
+        wild(r, s);
+    }
+    // most stops would come again at the same order
+    if r.chance(3) {
+        s.pointer = r.below((b.deck.len() as u64 / 4).max(1)) as u16;
+    }
+    if r.chance(60) && !b.journal.is_empty() {
+        let at = r.below(b.journal.len() as u64) as usize;
+        b.journal[at] = r.next() as u32 >> r.below(32);
+    }
+    if back && r.chance(8) {
+        damage(r, s, b);
+    }
 }
 
 /// Why the next step is stopped, asked of both; nothing is written.
@@ -213,7 +271,7 @@ fn text(r: &mut Random) -> Vec<u8> {
     for _ in 0..r.below(3) {
         let at = r.below(t.len() as u64) as usize;
         match r.below(5) {
-            0 => t[at] = b" \n0123456789ABCDEFabLERop\r\t"[r.below(27) as usize],
+            0 => t[at] = b" \n0123456789ABCDEFabLERSTop\r\t"[r.below(29) as usize],
             1 => drop(t.remove(at)),
             2 => t.insert(at, b" \n0"[r.below(3) as usize]),
             3 => t.truncate(at),

@@ -51,9 +51,14 @@ fn looped(orders: &[[u16; 4]]) -> Vec<u16> {
     orders.iter().copied().chain([[21, 7, 0, 0]]).flatten().collect()
 }
 
+/// The large number that JN counts down from, in both sets.
+fn counting(mut s: State) -> State {
+    s.general.iter_mut().for_each(|set| set[7] = u32::MAX);
+    s
+}
+
 fn run(name: &'static str, orders: &[[u16; 4]], s: State, memory: Vec<u16>) -> Row {
-    let mut s = s;
-    s.general[7] = u32::MAX;
+    let s = counting(s);
     let n = memory.len();
     let b = Buffers { deck: looped(orders), memory, protect: vec![0; n.div_ceil(8)], journal: vec![0; 16_384] };
     let (mut c, mut d) = (b.clone(), b.clone());
@@ -101,8 +106,7 @@ fn tuned_step(s: &mut State, b: &mut Buffers) -> (u32, u8) {
 
 /// Single calls, as a step key makes them.
 fn stepping(name: &'static str, orders: &[[u16; 4]], s: State, memory: Vec<u16>) -> Row {
-    let mut s = s;
-    s.general[7] = u32::MAX;
+    let s = counting(s);
     let n = memory.len();
     let b = Buffers { deck: looped(orders), memory, protect: vec![0; n.div_ceil(8)], journal: vec![0; 16_384] };
     let (mut c, mut d) = (b.clone(), b.clone());
@@ -259,7 +263,7 @@ fn main() {
     // the same through index registers, whose upper halfwords do not count
     let indexed_moves: Vec<[u16; 4]> = moves.iter().map(|o| [o[0], o[1], 1 + o[1] % 3, o[3]]).collect();
     let mut indexed = floats(r, 0x80ff_ffff);
-    (indexed.general[1], indexed.general[2], indexed.general[3]) = (0x7fff_0004, 0x8000_0008, 0xffff_000c);
+    indexed.general[0][1..4].copy_from_slice(&[0x7fff_0004, 0x8000_0008, 0xffff_000c]);
     // what an add puts on is a little more than what a subtract takes off, so that the sums walk slowly, some through zero
     let short_sums: Vec<[u16; 4]> = (0..12).map(|k| [23 + k % 2 * 2, k % 3 * 2, 6 + k % 2, 0]).collect();
     let long_sums: Vec<[u16; 4]> = (0..12).map(|k| [28 + k % 2 * 2, k % 3 * 2, 0, k % 2 * 4]).collect();
@@ -269,6 +273,21 @@ fn main() {
     // multipliers a little above and a little below one; even registers fill a pair, odd ones one register
     let short_products: Vec<[u16; 4]> = (0..12).map(|k| [31, k % 6, 6 + k % 2, 0]).collect();
     let long_products: Vec<[u16; 4]> = (0..12).map(|k| [34, k % 3 * 2, 0, k % 2 * 4]).collect();
+    // each set in turn: loads with and without index, a word to float and home again, and a count
+    let both_sets: Vec<[u16; 4]> = (0..2)
+        .flat_map(|set| {
+            [
+                [35, 0, set, 0],
+                [17, 1, 0, 4 + 8 * set],
+                [10, 2, 1, 0],
+                [9, 3, 2, 0],
+                [17, 4, 5, 24],
+                [21, 6, 0, 6 * set + 6],
+            ]
+        })
+        .collect();
+    let mut two_tables = State::default();
+    (two_tables.general[0][5], two_tables.general[1][5]) = (0x7fff_0004, 0x8000_0010);
     let rows = [
         run("(a) a mixed deck with loops", &mixed, floats(r, 0x80ff_ffff), words(r, 0xff_ffff)),
         run("(b) short divides", &shorts, near_one, vec![0; 64]),
@@ -283,6 +302,7 @@ fn main() {
         run("(k) long products, unnormalised", &long_products, floats(r, 0x800f_ffff), unnormalised),
         run("(l) long compares, unnormalised", &long_compares, floats(r, 0x870f_ffff), vec![0; 64]),
         run("(m) loads and stores, indexed", &indexed_moves, indexed, words(r, 0xff_ffff)),
+        run("(n) general registers of both sets", &both_sets, two_tables, words(r, 0xff_ffff)),
     ];
     println!("{:<36} {:>8} {:>8} {:>8} {:>9} {:>9}", "", "proved", "plain", "tuned", "to plain", "to tuned");
     for r in &rows {

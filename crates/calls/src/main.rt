@@ -5,8 +5,8 @@
 // calls of a case one line with the first 64 halfwords of memory.
 use decktext::Reading;
 use trial::Input;
+use trial::Layout;
 use trial::Number;
-use trial::Pointer;
 
 fn complain() -> bool {
     io::write_all(libc::STDERR_FILENO, b"calls: a case is not of the form\n");
@@ -28,7 +28,7 @@ fn run_deck(
     }
     let listed = trial::list(
         calls,
-        Pointer::First,
+        Layout::Calls,
         machine::fresh(),
         &cells[..n],
         memory,

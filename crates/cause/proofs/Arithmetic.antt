@@ -60,12 +60,13 @@ performed-stop Verb.Multiply Width.Short o g a b =
     (productWords Width.Short (productWidth Width.Short (o .r1)) (eqb (g .status .mask) 1) (floatOperand Width.Short (g .float) (o .r1)) b)
 performed-stop Verb.Multiply Width.Long o g a b =
     mapped-stop (resultInto false Width.Long (g .status) (o .r1)) (productWords Width.Long Width.Long (eqb (g .status .mask) 1) (floatOperand Width.Long (g .float) (o .r1)) b)
+performed-stop Verb.Select w o g a b = refl
 
 module _ (op : Operation) (o : Order) (legal : legalOf o ≡ gives op) where
   pub effect-stop : (g : Registers) (m : List ℕ) (a : ℕ) → stopIn (effectOf op o g m a) ≡ stopBy o (g .status .mask) (wordsIn op o g m a)
   unfolding effectOf stopBy
   effect-stop g m a =
-      performed-stop (op .verb) (op .width) o g a (secondOperand (op .place) (op .width) o (g .float) (g .general) m a)
+      performed-stop (op .verb) (op .width) o g a (secondOperand (op .place) (op .width) o (g .float) (g .general) (g .status .selector) m a)
       ∙ ap (λ (r : Answer Operation). stopByRow r o (g .status .mask) (wordsIn op o g m a)) (sym legal)
 
   pub same-stop : SameStop op o

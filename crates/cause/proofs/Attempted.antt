@@ -18,6 +18,7 @@ use Rattle.protection.specs.Form.{ProtectList, covers, isProtected}
 use Rattle.machine.specs.declared.state.Registers.{Registers}
 use Rattle.machine.specs.declared.verdict.Effect.{Effect}
 use Rattle.orders.specs.Address.{indexOf, addressOf}
+use Rattle.orders.specs.General.{generalCell, generalAt}
 use Rattle.machine.specs.Check.{deckSized, buffersSized, stateFormed, present, anyProtected}
 use Rattle.machine.specs.Decide.{heldStop, entryStop, judged, decided}
 use Rattle.machine.specs.Effect.{effectOf}
@@ -66,13 +67,17 @@ blank (suc n) zero = refl
 blank (suc n) (suc i) = blank n i
 
 -- general registers that are 0 leave its S there
-no-index : (o : Order) → addressOf (moved o) (replicate 8 0) ≡ 0
-unfolding addressOf indexOf
-no-index o = rw (blank 8 (o .r2)) (cases (leb 1 (o .r2) && leb (o .r2) 7))
+no-index : (o : Order) → addressOf (moved o) (replicate 16 0) 0 ≡ 0
+unfolding addressOf indexOf generalAt
+no-index o = cases (eqb (o .r2) 0) (leb (o .r2) 7)
   where
-    cases : (b : Bool) → _≡_ {A = ℕ} (0 + cond b 0 0) 0
-    cases true = refl
-    cases false = refl
+    register : ℕ
+    register = getD (replicate 16 0) (generalCell 0 (o .r2)) 0
+
+    cases : (b c : Bool) → 0 + cond b 0 (cond c register 0 % 65536) ≡ 0
+    cases true c = refl
+    cases false true = ap (λ (w : ℕ). 0 + w % 65536) (blank 16 (generalCell 0 (o .r2)))
+    cases false false = refl
 
 -- an order on a general register reads no word for its arithmetic
 unfoldable readsNone : Place → Verb → Bool
@@ -81,7 +86,7 @@ readsNone Place.FloatRegister v = true
 readsNone Place.GeneralRegister v = eqb (arithmeticOperands v) 0
 readsNone Place.Storage v = true
 
-rows-read : allRows (λ op. readsNone (op .place) (op .verb)) rows ≡ true
+rows-read : allRows (λ code op. readsNone (op .place) (op .verb)) rows 1 ≡ true
 unfolding allRows readsNone
 rows-read = refl
 
@@ -91,15 +96,15 @@ rejoined w = omega arith
 
 -- the words that the arithmetic reads, the second operand being in storage at address 0
 words-moved :
-    (q : Place) (v : Verb) (w : Width) (o : Order) (f n m : List ℕ) (a : ℕ) → readsNone q v ≡ true →
-    wordsNamed (arithmeticOperands v) w (floatOperand w f (o .r1)) (secondOperand q w (moved o) f (replicate 8 0) (halfwordsOf (secondOperand q w o f n m a)) 0)
-    ≡ wordsNamed (arithmeticOperands v) w (floatOperand w f (o .r1)) (secondOperand q w o f n m a)
+    (q : Place) (v : Verb) (w : Width) (o : Order) (f n : List ℕ) (s : ℕ) (m : List ℕ) (a : ℕ) → readsNone q v ≡ true →
+    wordsNamed (arithmeticOperands v) w (floatOperand w f (o .r1)) (secondOperand q w (moved o) f (replicate 16 0) 0 (halfwordsOf (secondOperand q w o f n s m a)) 0)
+    ≡ wordsNamed (arithmeticOperands v) w (floatOperand w f (o .r1)) (secondOperand q w o f n s m a)
 unfolding secondOperand storageOperand readsNone wordsNamed
-words-moved Place.Nowhere v w o f n m a h = refl
-words-moved Place.FloatRegister v w o f n m a h = refl
-words-moved Place.GeneralRegister v w o f n m a h = rw (eqb-true (arithmeticOperands v) 0 h)
-words-moved Place.Storage v Width.Short o f n m a h = rw (rejoined (wordAt m a))
-words-moved Place.Storage v Width.Long o f n m a h = rw (rejoined (wordAt m a), rejoined (wordAt m (a + 2)))
+words-moved Place.Nowhere v w o f n s m a h = refl
+words-moved Place.FloatRegister v w o f n s m a h = refl
+words-moved Place.GeneralRegister v w o f n s m a h = rw (eqb-true (arithmeticOperands v) 0 h)
+words-moved Place.Storage v Width.Short o f n s m a h = rw (rejoined (wordAt m a))
+words-moved Place.Storage v Width.Long o f n s m a h = rw (rejoined (wordAt m a), rejoined (wordAt m (a + 2)))
 
 -- four halfwords are there
 all-there : (span : ℕ) → span ≤ 4 → present span 0 4 ≡ true
@@ -117,7 +122,7 @@ none-protected a (suc n) = rw (free a) (none-protected (a + 1) n)
 
 module _ (op : Operation) (o : Order) (g : Registers) (m : List ℕ) (a : ℕ) (h : Accessible op o g) where
   abbrev x : Machine
-  x = attemptMachine (g .float) (g .status .mask) (secondOperand (op .place) (op .width) o (g .float) (g .general) m a)
+  x = attemptMachine (g .float) (g .status .mask) (secondOperand (op .place) (op .width) o (g .float) (g .general) (g .status .selector) m a)
 
   abbrev bare : Registers
   bare = x .state .registers
@@ -138,8 +143,8 @@ module _ (op : Operation) (o : Order) (g : Registers) (m : List ℕ) (a : ℕ) (
   same-words : wordsIn op (moved o) bare (x .memory) 0 ≡ wordsIn op o g m a
   same-words =
       ap valuesOf
-      (words-moved (op .place) (op .verb) (op .width) o (g .float) (g .general) m a
-      (row-passes (λ op. readsNone (op .place) (op .verb)) rows-read (o .code) op (legal-row o op (h .legal) .0)))
+      (words-moved (op .place) (op .verb) (op .width) o (g .float) (g .general) (g .status .selector) m a
+      (row-passes (λ code op. readsNone (op .place) (op .verb)) rows-read (o .code) op (legal-row o op (h .legal) .0)))
 
   -- and what it reads are the same words
   pub attempt-stop : stepped (attemptDeck o) attemptProtect x .stop ≡ stopIn (effectOf op o g m a)

@@ -17,7 +17,7 @@ use Rattle.protection.specs.Form.{ProtectList, isProtected}
 use Rattle.machine.specs.declared.fetching.Fetched.{Fetched}
 use Rattle.machine.specs.declared.fetching.Operands.{Operands}
 use Rattle.machine.specs.declared.state.Registers.{Registers}
-use Rattle.orders.specs.Address.{addressOf}
+use Rattle.machine.specs.Operand.{addressIn}
 use Rattle.machine.specs.Check.{present}
 use Rattle.machine.specs.Decide.{accessed}
 use Rattle.machine.specs.Effect.{effectOf}
@@ -42,14 +42,14 @@ module _ (op : Operation) (o : Order) (g : Registers) (m : List ℕ) (a : ℕ) (
   there = present (spanOf op) a (length m)
 
   abbrev read : Answer Operands
-  read = operandsRead o (g .float) (g .general) m a
+  read = operandsRead o (g .float) (g .general) (g .status .selector) m a
 
   -- S of an order whose operands were not read is absent, and of one whose operands were read it is there
   not-given : (k : ℕ) → stops k ≡ read → there ≡ false
   unfolding operandsRead
   not-given k h = cases there (rw (legal) at h)
     where
-      cases : (b : Bool) → stops k ≡ cond b (gives (operandsOf o (g .float) (g .general) m a op)) (stops 6) → b ≡ false
+      cases : (b : Bool) → stops k ≡ cond b (gives (operandsOf o (g .float) (g .general) (g .status .selector) m a op)) (stops 6) → b ≡ false
       cases true e = never e
       cases false e = refl
 
@@ -59,20 +59,20 @@ module _ (op : Operation) (o : Order) (g : Registers) (m : List ℕ) (a : ℕ) (
   unread Fetched.Illegal t h = not-given 5 h
   unread Fetched.Absent t h = not-given 6 h
 
-  given : (q : Operands) → gives q ≡ read → (there ≡ true) × (q ≡ operandsOf o (g .float) (g .general) m a op)
+  given : (q : Operands) → gives q ≡ read → (there ≡ true) × (q ≡ operandsOf o (g .float) (g .general) (g .status .selector) m a op)
   unfolding operandsRead
   given q h = cases there refl (rw (legal) at h)
     where
       cases :
-          (b : Bool) → there ≡ b → gives q ≡ cond b (gives (operandsOf o (g .float) (g .general) m a op)) (stops 6) →
-          (there ≡ true) × (q ≡ operandsOf o (g .float) (g .general) m a op)
+          (b : Bool) → there ≡ b → gives q ≡ cond b (gives (operandsOf o (g .float) (g .general) (g .status .selector) m a op)) (stops 6) →
+          (there ≡ true) × (q ≡ operandsOf o (g .float) (g .general) (g .status .selector) m a op)
       cases true e z = (e, gives-inj z)
       cases false e z = never (sym z)
 
 -- of an order that passed checks 5, 12 and 13
 module _ (op : Operation) (o : Order) (g : Registers) (p : ProtectList) (m : List ℕ) (h : Accessible op o g) where
   abbrev at : ℕ
-  at = addressOf o (g .general)
+  at = addressIn o g
 
   abbrev answer : Cause
   answer = explained (stopIn (accessed o g p m at op)) o g m at p
@@ -81,7 +81,7 @@ module _ (op : Operation) (o : Order) (g : Registers) (p : ProtectList) (m : Lis
   unfolding causeNumber namedFor lowestAbsent
   explain-absent absent = rw (absent, h .legal)
 
-  module _ (q : Operands) (operands : gives q ≡ operandsRead o (g .float) (g .general) m at) where
+  module _ (q : Operands) (operands : gives q ≡ operandsRead o (g .float) (g .general) (g .status .selector) m at) where
     reached : present (spanOf op) at (length m) ≡ true
     reached = given op o g m at (h .legal) q operands .0
 

@@ -40,7 +40,7 @@ number-listed k h =
 
 module _ (k : ℕ) (o : Order) (g : Registers) (m : List ℕ) (a : ℕ) (p : ProtectList) where
   -- 8 to 11 name words
-  pub named-words : 8 ≤ k → k ≤ 11 → namedFor k o g m a p ≡ wordsRead (operandsRead o (g .float) (g .general) m a)
+  pub named-words : 8 ≤ k → k ≤ 11 → namedFor k o g m a p ≡ wordsRead (operandsRead o (g .float) (g .general) (g .status .selector) m a)
   unfolding namedFor
   named-words l u =
       rw (ne-eqb k 5 (λ z. omega arith), ne-eqb k 6 (λ z. omega arith), ne-eqb k 7 (λ z. omega arith), le-leb 8 k l, le-leb k 11 u)

@@ -13,7 +13,7 @@ use Rattle.orders.specs.declared.order.Order.{Order}
 use Rattle.orders.specs.Order.{legalOf, spanOf, storedOf, isHalt, orderAt}
 use Rattle.protection.specs.Form.{ProtectList}
 use Rattle.machine.specs.declared.state.Registers.{Registers}
-use Rattle.orders.specs.Address.{addressOf}
+use Rattle.machine.specs.Operand.{addressIn}
 use Rattle.machine.specs.Check.{present, anyProtected}
 use Rattle.machine.specs.Decide.{entryStop, judged, decided}
 use Rattle.machine.specs.Effect.{effectOf}
@@ -123,11 +123,11 @@ module _ (o : Order) (g : Registers) (p : ProtectList) (m : List ℕ) (a : ℕ) 
       let is : k ≡ 5 = stops-at (λ (n : ℕ). n ≡ 5) (legalOf o) k h (legal-by (λ (n : ℕ). n ≡ 5) refl o) in
       subst (Known o g p m a) (sym is) (five (h ∙ ap stops is))
 
-pub decided-known : (d : List ℕ) (p : ProtectList) (g : Registers) (used : ℕ) (m : List ℕ) (journal : ℕ) → StopsBy (Known (orderAt d (g .status .pointer)) g p m (addressOf (orderAt d (g .status .pointer)) (g .general))) (decided d p g used m journal)
+pub decided-known : (d : List ℕ) (p : ProtectList) (g : Registers) (used : ℕ) (m : List ℕ) (journal : ℕ) → StopsBy (Known (orderAt d (g .status .pointer)) g p m (addressIn (orderAt d (g .status .pointer)) g)) (decided d p g used m journal)
 unfolding decided
 decided-known d p g used m journal =
     let o = orderAt d (g .status .pointer) in
-    let a = addressOf o (g .general) in
+    let a = addressIn o g in
     let k = entryStop (length d) p (g .status) used (length m) journal in
     checked-by (Known o g p m a) k _ (λ z. outside o g p m a k (λ l u. omega (arith, entry-number p (g .status) used (length m) journal (length d))))
     (provided-known (Known o g p m a) (ltb (g .status .pointer) (length d / 4)) 4 _ (λ z. outside o g p m a 4 (λ l u. omega arith)) (λ z.

@@ -66,7 +66,7 @@ module _ (o : Order) (g : Registers) (p : ProtectList) (m : List ℕ) (a : ℕ) 
         }
 
     -- the words of a legal order whose S is there
-    words-are : present (spanOf op) a (length m) ≡ true → valuesOf (wordsRead (operandsRead o (g .float) (g .general) m a)) ≡ wordsIn op o g m a
+    words-are : present (spanOf op) a (length m) ≡ true → valuesOf (wordsRead (operandsRead o (g .float) (g .general) (g .status .selector) m a)) ≡ wordsIn op o g m a
     unfolding wordsRead operandsRead
     words-are there = rw (legal, there)
 

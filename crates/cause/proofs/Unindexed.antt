@@ -24,7 +24,7 @@ use Rattle.orders.specs.Address.{addressOf}
 use Rattle.machine.specs.Check.{present}
 use Rattle.machine.specs.Fetch.{operandsRead}
 use Rattle.machine.specs.Machine.{Machine}
-use Rattle.machine.specs.Operand.{floatOperand, secondOperand}
+use Rattle.machine.specs.Operand.{floatOperand, secondOperand, addressIn}
 use Rattle.machine.specs.Step.{nextOrder, nextAddress, verdictOf}
 use Rattle.orders.proofs.Addresses.{address-plain}
 use Rattle.machine.proofs.Rows.{legal-passed}
@@ -52,12 +52,12 @@ module _ (o : Order) (none : NoIndex o) where
       cases (gives op) h = rw (above-same (op .place) (o .r2) (op .r2) (h op refl))
       cases (stops k) h = refl
 
-  module _ (n : List ℕ) (op : Operation) (legal : legalOf o ≡ gives op) where
+  module _ (n : List ℕ) (t : ℕ) (op : Operation) (legal : legalOf o ≡ gives op) where
     -- where it has a storage operand, that is at `at`
-    there-unindexed : op .place ≡ Place.Storage → addressOf o n ≡ o .at
-    there-unindexed s = address-plain o n (none op (legal-row o op legal .0) s)
+    there-unindexed : op .place ≡ Place.Storage → addressOf o n t ≡ o .at
+    there-unindexed s = address-plain o n t (none op (legal-row o op legal .0) s)
 
-    span-unindexed : 0 < spanOf op → addressOf o n ≡ o .at
+    span-unindexed : 0 < spanOf op → addressOf o n t ≡ o .at
     span-unindexed h = there-unindexed (cases (op .place) h)
       where
         cases : (q : Place) → 0 < spanAs q (op .width) → q ≡ Place.Storage
@@ -67,16 +67,16 @@ module _ (o : Order) (none : NoIndex o) where
         cases Place.Storage h = refl
 
     -- and what it reads is the same
-    operands-unindexed : (f m : List ℕ) → operandsRead o f n m (addressOf o n) ≡ operandsRead o f n m (o .at)
+    operands-unindexed : (f m : List ℕ) → operandsRead o f n t m (addressOf o n t) ≡ operandsRead o f n t m (o .at)
     unfolding operandsRead present secondOperand
     operands-unindexed f m = rw (legal) (cases (op .place) there-unindexed)
       where
         reading : Place → ℕ → Answer Operands
         reading q a =
             provided (present (spanAs q (op .width)) a (length m)) 6
-            (gives (record { operation = op; first = floatOperand (op .width) f (o .r1); second = secondOperand q (op .width) o f n m a }))
+            (gives (record { operation = op; first = floatOperand (op .width) f (o .r1); second = secondOperand q (op .width) o f n t m a }))
 
-        cases : (q : Place) → (q ≡ Place.Storage → addressOf o n ≡ o .at) → reading q (addressOf o n) ≡ reading q (o .at)
+        cases : (q : Place) → (q ≡ Place.Storage → addressOf o n t ≡ o .at) → reading q (addressOf o n t) ≡ reading q (o .at)
         cases Place.Nowhere h = refl
         cases Place.FloatRegister h = refl
         cases Place.GeneralRegister h = refl
@@ -84,7 +84,7 @@ module _ (o : Order) (none : NoIndex o) where
 
   module _ (g : Registers) (p : ProtectList) (m : List ℕ) where
     abbrev a : ℕ
-    a = addressOf o (g .general)
+    a = addressIn o g
 
     named-unindexed : (k : ℕ) → (1 ≤ k → Known o g p m a k) → namedFor k o g m a p ≡ unindexedNamed k o g m p
     unfolding namedFor unindexedNamed
@@ -95,22 +95,22 @@ module _ (o : Order) (none : NoIndex o) where
         other y z w s =
             cond y (Named.Address (lowestAbsent o s (length m)))
             (cond z (Named.Address (lowestProtected o s p))
-            (cond w (wordsRead (operandsRead o (g .float) (g .general) m s))
+            (cond w (wordsRead (operandsRead o (g .float) (g .general) (g .status .selector) m s))
             Named.Nothing))
 
         rest : (y z w : Bool) → eqb k 6 ≡ y → eqb k 7 ≡ z → (leb 8 k && leb k 11) ≡ w → other y z w a ≡ other y z w (o .at)
         rest true z w e f h =
             let q = known (omega (arith, eqb-true k 6 e)) .absent (eqb-true k 6 e) in
-            ap (other true z w) (span-unindexed (g .general) (q .0) (q .1) (past-end (spanOf (q .0)) a (length m) (q .2) .0))
+            ap (other true z w) (span-unindexed (g .general) (g .status .selector) (q .0) (q .1) (past-end (spanOf (q .0)) a (length m) (q .2) .0))
         rest false true w e f h =
             let q = known (omega (arith, eqb-true k 7 f)) .protected (eqb-true k 7 f) in
             let some = any-some p a (storedOf (q .0)) (q .3) in
-            ap (other false true w) (span-unindexed (g .general) (q .0) (q .1) (omega (arith, some, legal-passed o (q .0) (q .1) .stored)))
+            ap (other false true w) (span-unindexed (g .general) (g .status .selector) (q .0) (q .1) (omega (arith, some, legal-passed o (q .0) (q .1) .stored)))
         rest false false true e f h =
             let b = both (leb 8 k) (leb k 11) h in
             let low = leb-true 8 k (b .0) in
             let q = known (omega arith) .arithmetic low (leb-true k 11 (b .1)) in
-            ap wordsRead (operands-unindexed (g .general) (q .0) (q .1) (g .float) m)
+            ap wordsRead (operands-unindexed (g .general) (g .status .selector) (q .0) (q .1) (g .float) m)
         rest false false false e f h = refl
 
         cases :

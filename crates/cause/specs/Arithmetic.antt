@@ -53,6 +53,7 @@ arithmeticStop Verb.CountDown w r mask ws = 0
 arithmeticStop Verb.Halt w r mask ws = 12
 arithmeticStop (Verb.Sum s) w r mask ws = stopIn (summedWords s w (eqb mask 1) (firstAmong w ws) (secondAmong w ws))
 arithmeticStop Verb.Multiply w r mask ws = stopIn (productWords w (productWidth w r) (eqb mask 1) (firstAmong w ws) (secondAmong w ws))
+arithmeticStop Verb.Select w r mask ws = 0
 
 -- by the row of an order
 abbrev pub stopByRow : Answer Operation → Order → ℕ → List ℕ → ℕ

@@ -29,7 +29,7 @@ attemptProtect = bitwise (replicate 1 0)
 
 -- the second operand in storage, room for one record, and no step taken yet
 abbrev pub attemptMachine : List ℕ → ℕ → Words → Machine
-attemptMachine f mask b = machine (state (registers f (replicate 8 0) (status 0 mask 0)) 0) (halfwordsOf b) (replicate 4 0)
+attemptMachine f mask b = machine (state (registers f (replicate 16 0) (status 0 mask 0 0)) 0) (halfwordsOf b) (replicate 4 0)
 
 -- what the checks leave known where an order's storage is looked at
 pub record Accessible (op : Operation) (o : Order) (g : Registers) : Type 0 where

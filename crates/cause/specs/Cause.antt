@@ -39,7 +39,7 @@ namedFor k o g m a p =
     cond (eqb k 5) (Named.Cell (firstCell (breaks o)))
     (cond (eqb k 6) (Named.Address (lowestAbsent o a (length m)))
     (cond (eqb k 7) (Named.Address (lowestProtected o a p))
-    (cond (leb 8 k && leb k 11) (wordsRead (operandsRead o (g .float) (g .general) m a))
+    (cond (leb 8 k && leb k 11) (wordsRead (operandsRead o (g .float) (g .general) (g .status .selector) m a))
     Named.Nothing)))
 
 -- an order that is stopped by k, or by nothing where k is 0

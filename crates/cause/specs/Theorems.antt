@@ -53,7 +53,7 @@ pub record TrueCause (d : List ℕ) (p : ProtectList) (x : Machine) (w : Cause) 
 -- the words that a legal order's arithmetic reads in a machine with these registers and this memory, where S is at a
 abbrev pub wordsIn : Operation → Order → Registers → List ℕ → ℕ → List ℕ
 wordsIn op o g m a =
-    valuesOf (wordsNamed (arithmeticOperands (op .verb)) (op .width) (floatOperand (op .width) (g .float) (o .r1)) (secondOperand (op .place) (op .width) o (g .float) (g .general) m a))
+    valuesOf (wordsNamed (arithmeticOperands (op .verb)) (op .width) (floatOperand (op .width) (g .float) (o .r1)) (secondOperand (op .place) (op .width) o (g .float) (g .general) (g .status .selector) m a))
 
 -- what the arithmetic of a legal order answers in one machine, it answers in any other that agrees with it on the words and the mask
 abbrev pub SameStop : Operation → Order → Type 0

@@ -29,6 +29,7 @@ arithmeticOperands Verb.CountDown = 0
 arithmeticOperands Verb.Halt = 0
 arithmeticOperands (Verb.Sum s) = 2
 arithmeticOperands Verb.Multiply = 2
+arithmeticOperands Verb.Select = 0
 
 -- one operand is the second
 unfoldable pub wordsNamed : ℕ → Width → Words → Words → Named

@@ -25,11 +25,12 @@ fn halfwords(b: Words) -> [u16; 4]
 pub fn attempt(o: Order, second: Words, float: [u32; 8], mask: u8) -> u8
     ensures { λ r. ⌜ r ≡ stepped (attemptDeck o) attemptProtect (attemptMachine float mask second) .stop ⌝ }
 {
-    let general = [0; 8]; // no index
+    let general = [0; 16]; // no index
     let status = Status {
         condition: 0,
         mask,
         pointer: 0,
+        selector: 0,
     };
     let registers = Registers {
         float,

@@ -21,9 +21,9 @@ use orders::stored;
 ghost use mathlib.Core.Path.{_≡_};
 ghost use Prim.Native.Nat.{_≤_};
 ghost use Rattle.protection.specs.Bits.{bitwise};
-ghost use Rattle.orders.specs.Address.{addressOf};
 ghost use Rattle.machine.specs.Decide.{accessed, judgedAt};
 ghost use Rattle.machine.specs.Machine.{machine};
+ghost use Rattle.machine.specs.Operand.{addressIn};
 ghost use Rattle.cause.specs.Attempt.{Accessible};
 ghost use Rattle.cause.specs.Arithmetic.{stopIn};
 ghost use Rattle.cause.specs.declared.naming.Named.{Named};
@@ -42,12 +42,14 @@ fn alone(number: u8) -> Cause
 // Checks 6 and 7 of a legal order, and 8 to 11, for which it is tried.
 fn access(op: Operation, o: Order, registers: Registers, memory: &[u16], protect: &[u8]) -> Cause
     requires { ⌜ Accessible op o registers ⌝ }
-    ensures { λ r. ⌜ r ≡ explained (stopIn (accessed o registers (bitwise (now (protect .entry))) (now (memory .entry)) (addressOf o (registers .general)) op)) o registers (now (memory .entry)) (addressOf o (registers .general)) (bitwise (now (protect .entry))) ⌝ }
+    ensures { λ r. ⌜ r ≡ explained (stopIn (accessed o registers (bitwise (now (protect .entry))) (now (memory .entry)) (addressIn o registers) op)) o registers (now (memory .entry)) (addressIn o registers) (bitwise (now (protect .entry))) ⌝ }
 {
     let float = registers.float;
     let general = registers.general;
-    let at = address(o, &general);
-    let fetched = machine::fetch(o, &float, &general, memory);
+    let status = registers.status;
+    let selector = status.selector;
+    let at = address(o, &general, selector);
+    let fetched = machine::fetch(o, &float, &general, selector, memory);
     let Fetched::Read(q) = fetched else {
         return Cause {
             number: 6,
@@ -62,7 +64,6 @@ fn access(op: Operation, o: Order, registers: Registers, memory: &[u16], protect
             named: Named::Address(a),
         };
     }
-    let status = registers.status;
     let number = attempt(o, q.second, float, status.mask);
     if number == 0 {
         return alone(18); // taken
@@ -81,7 +82,7 @@ fn examine(
     journal: usize,
 ) -> Cause
     requires { ⌜ registers .status .mask ≤ 1 ⌝ }
-    ensures { λ r. ⌜ r ≡ explained (stopIn (judgedAt o registers used (bitwise (now (protect .entry))) (now (memory .entry)) journal)) o registers (now (memory .entry)) (addressOf o (registers .general)) (bitwise (now (protect .entry))) ⌝ }
+    ensures { λ r. ⌜ r ≡ explained (stopIn (judgedAt o registers used (bitwise (now (protect .entry))) (now (memory .entry)) journal)) o registers (now (memory .entry)) (addressIn o registers) (bitwise (now (protect .entry))) ⌝ }
 {
     let checked = legal(o);
     let Legality::Legal(op) = checked else {

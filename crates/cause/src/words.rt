@@ -38,6 +38,7 @@ fn arithmetic_operands(verb: Verb) -> u32
         Verb::Halt => 0,
         Verb::Sum(_) => 2,
         Verb::Multiply => 2,
+        Verb::Select => 0,
     }
 }
 

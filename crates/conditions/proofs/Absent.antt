@@ -29,7 +29,7 @@ goes Place.FloatRegister v = true
 goes Place.GeneralRegister v = true
 goes Place.Storage v = not (isHalt v)
 
-rows-go : allRows (λ op. goes (op .place) (op .verb)) rows ≡ true
+rows-go : allRows (λ code op. goes (op .place) (op .verb)) rows 1 ≡ true
 unfolding allRows goes
 rows-go = refl
 
@@ -51,7 +51,7 @@ absent-above d p x op entry pointer legal storage room above =
     let n = length (x .memory) in
     let size = held p s (x .state .used) n (length (x .journal)) (entered p s (x .state .used) n (length (x .journal)) (length d) entry .1) .memory-size in
     let wide = some (op .width) in
-    let go = row-passes (λ op. goes (op .place) (op .verb)) rows-go (o .code) op (legal-row o op legal .0) in
+    let go = row-passes (λ code op. goes (op .place) (op .verb)) rows-go (o .code) op (legal-row o op legal .0) in
     rw (
       eq-eqb (entryOf d p x) 0 entry,
       lt-ltb (s .pointer) (length d / 4) pointer,

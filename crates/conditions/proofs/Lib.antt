@@ -13,6 +13,7 @@ pub mod Repeats
 pub mod Restore
 pub mod Return
 pub mod Same
+pub mod Sets
 pub mod Theorems
 pub mod Trail
 pub mod Unindexed

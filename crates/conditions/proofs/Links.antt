@@ -97,6 +97,7 @@ module _ (d : List ℕ) (p : ProtectList) (journal : ℕ) where
           cover = checks .cover;
           condition = facts .fine .condition;
           mask = facts .fine .mask;
+          selector = facts .fine .selector;
           room = omega (arith, facts .room);
         }))
 
@@ -106,6 +107,7 @@ module _ (d : List ℕ) (p : ProtectList) (journal : ℕ) where
         (decoded-encoded before (record {
           condition = checks .condition;
           mask = checks .mask;
+          selector = checks .selector;
           pointer = facts .pointer;
           registers = registered-old (x .state .registers) (x .memory) (e .change) ∙ facts .fine .registers;
         }))
@@ -132,7 +134,8 @@ module _ (d : List ℕ) (p : ProtectList) (journal : ℕ) where
         let one : x .state .used + 1 - 1 ≡ x .state .used = omega arith in
         rw (
           float-back (x .state .registers) (x .memory) (e .change),
-          general-back (x .state .registers) (x .memory) (e .change),
+          facts .fine .general (x .state .registers .general),
+          general-back (x .state .registers) (x .memory) (e .change) (facts .fine .registers) (checks .selector),
           memory-back (x .state .registers) (x .memory) (kept .halfwords) (e .change),
           one,
         )

@@ -1,9 +1,9 @@
 -- The numbers that calls answer: a step and a run 0 to 13, a back step 0, 2, 3, 14 or 15; and 0 is a call that was taken.
-use Prim.Native.Nat.{ℕ, _+_, _-_, _/_, _^_, _≤_}
+use Prim.Native.Nat.{ℕ, _+_, _-_, _/_, _%_, _^_, _≤_}
 use mathlib.Core.Path.{_≡_, refl, ap, subst}
 use mathlib.Core.List.{List}
 use mathlib.Core.Bool.{Bool, true, false, not}
-use lib.Dec.{eqb, leb}
+use lib.Dec.{eqb, leb, ltb}
 use lib.ListN.{length}
 use native.Mathlib.Omega.{arith}
 use borrow.Author.Tests.{eqb-true, eqb-false}
@@ -56,7 +56,8 @@ decoded-by : (q : Record) → StopsBy BackStop (decoded q)
 unfolding decoded
 decoded-by q =
     provided-by BackStop (conditionFormed (unpacked (q .head) .condition)) 15 _ breaks
-    (mapped-by BackStop (effectFrom (unpacked (q .head))) (changeFrom (q .head / 2 ^ 19) (q .place) (q .left) (q .right)) (change-by _ _ _ _))
+    (provided-by BackStop (ltb (q .head) (2 ^ 23)) 15 _ breaks
+    (mapped-by BackStop (effectFrom (unpacked (q .head))) (changeFrom (q .head / 2 ^ 19 % 8) (q .place) (q .left) (q .right)) (change-by _ _ _ _)))
 
 allowed-by : (e : Effect) (p : ProtectList) (memory : ℕ) → StopsBy BackStop (allowed e p memory)
 unfolding allowed

@@ -6,6 +6,7 @@ use mathlib.Core.Bool.{true}
 use lib.ListN.{length, getD, set, length-set}
 use lib.Seq.{getD-set-same, getD-set-other}
 use native.Mathlib.Omega.{arith}
+use borrow.Author.Tests.{lt-ltb}
 use Rattle.hexfloat.specs.Answer.{gives}
 use Rattle.machine.specs.declared.change.Change.{Change}
 use Rattle.machine.specs.declared.journal.Record.{Record}
@@ -66,64 +67,91 @@ written-same j k q h =
 pub record-agrees : (j l : List ℕ) (k : ℕ) → ((i : ℕ) → i < k * 4 + 4 → getD l i 0 ≡ getD j i 0) → recordAt l k ≡ recordAt j k
 record-agrees j l k h = rw (h (k * 4) (omega arith), h (k * 4 + 1) (omega arith), h (k * 4 + 2) (omega arith), h (k * 4 + 3) (omega arith))
 
--- a status comes back out of word 0, whatever kind stands above it
+-- the parts of word 0
+module _ (s : Status) (kind : ℕ) where
+  abbrev word : ℕ
+  word = s .pointer + 65536 * s .condition + 262144 * s .mask + 4194304 * s .selector + 524288 * kind
+
+  pointer-in : s .pointer < 65536 → word % 65536 ≡ s .pointer
+  pointer-in p = omega arith
+
+  condition-in : s .pointer < 65536 → s .condition < 4 → word / 65536 % 4 ≡ s .condition
+  condition-in p c = omega arith
+
+  mask-in : s .pointer < 65536 → s .condition < 4 → s .mask ≤ 1 → word / 262144 % 2 ≡ s .mask
+  mask-in p c m = omega arith
+
+  kind-in : s .pointer < 65536 → s .condition < 4 → s .mask ≤ 1 → kind ≤ 7 → word / 524288 % 8 ≡ kind
+  kind-in p c m k = omega arith
+
+  selector-in : s .pointer < 65536 → s .condition < 4 → s .mask ≤ 1 → kind ≤ 7 → s .selector ≤ 1 → word / 4194304 % 2 ≡ s .selector
+  selector-in p c m k t = omega arith
+
+-- a status comes back out of word 0, whatever kind of three bits stands in it
 pub record BackFrom (s : Status) (kind head : ℕ) : Type 0 where
   pub status : unpacked head ≡ s
-  pub above : head / 2 ^ 19 ≡ kind
+  pub between : head / 2 ^ 19 % 8 ≡ kind
+  pub whole : head < 2 ^ 23
 
-pub status-back :
-    (s : Status) (kind : ℕ) → s .pointer < 65536 → conditionFormed (s .condition) ≡ true → s .mask ≤ 1 → BackFrom s kind (packed s + 2 ^ 19 * kind)
+-- and word 0 is the status and the kind that are taken out of it, where no bit above 22 is set
+head-back : (w : ℕ) → w < 2 ^ 23 → packed (unpacked w) + 2 ^ 19 * (w / 2 ^ 19 % 8) ≡ w
 unfolding packed unpacked
-status-back s kind hp hc hm =
-    let below = condition-below (s .condition) hc in
-    let w = s .pointer + 65536 * s .condition + 262144 * s .mask + 524288 * kind in
-    let c : w / 65536 % 4 ≡ s .condition = omega arith in
-    let m : w / 262144 % 2 ≡ s .mask = omega arith in
-    let p : w % 65536 ≡ s .pointer = omega arith in
-    record { status = rw (c, m, p); above = omega arith }
+head-back w h = joined (w % 65536) (w / 65536 % 4) (w / 262144 % 2) (w / 524288 % 8) (w / 4194304 % 2) (w / 65536) (w / 262144) (w / 524288) w (omega arith) (omega arith) (omega arith) (omega arith)
+  where
+    -- part by part, each with what stands above it
+    joined :
+        (p c m k s above-p above-c above-m w : ℕ) → w ≡ p + 65536 * above-p → above-p ≡ c + 4 * above-c → above-c ≡ m + 2 * above-m → above-m ≡ k + 8 * s →
+        p + 65536 * c + 262144 * m + 4194304 * s + 524288 * k ≡ w
+    joined p c m k s above-p above-c above-m w a b d e = omega arith
 
--- and word 0 is the status and the kind that are taken out of it
-head-back : (w : ℕ) → packed (unpacked w) + 2 ^ 19 * (w / 2 ^ 19) ≡ w
-unfolding packed unpacked
-head-back w = omega arith
+module _ (s : Status) (hp : s .pointer < 65536) (hc : conditionFormed (s .condition) ≡ true) (hm : s .mask ≤ 1) (hs : s .selector ≤ 1) where
+  status-back : (kind : ℕ) → kind ≤ 7 → BackFrom s kind (packed s + 2 ^ 19 * kind)
+  unfolding packed unpacked
+  status-back kind hk =
+      let below = condition-below (s .condition) hc in
+      record {
+        status = rw (pointer-in s kind hp, condition-in s kind hp below, mask-in s kind hp below hm, selector-in s kind hp below hm hk hs);
+        between = kind-in s kind hp below hm hk;
+        whole = omega arith;
+      }
 
-module _ (s : Status) (hp : s .pointer < 65536) (hc : conditionFormed (s .condition) ≡ true) (hm : s .mask ≤ 1) where
   at-kind :
-      (kind place left right : ℕ) (ch : Change) → changeFrom kind place left right ≡ gives ch →
+      (kind place left right : ℕ) (ch : Change) → kind ≤ 7 → changeFrom kind place left right ≡ gives ch →
       decoded (fourWords (packed s + 2 ^ 19 * kind) place left right) ≡ gives (effectFrom s ch)
   unfolding decoded
-  at-kind kind place left right ch e = let b = status-back s kind hp hc hm in rw (b .status, hc, b .above, e)
+  at-kind kind place left right ch k e = let b = status-back kind k in rw (b .status, hc, lt-ltb _ (2 ^ 23) (b .whole), b .between, e)
 
   change-back : (ch : Change) → registered ch ≡ true → decoded (encodedAs (packed s) ch) ≡ gives (effectFrom s ch)
   unfolding encodedAs changeFrom registered
-  change-back Change.Nothing h = let none : packed s + 2 ^ 19 * 0 ≡ packed s = omega arith in rw none at (at-kind 0 0 0 0 Change.Nothing refl)
-  change-back (Change.Float r w) h = at-kind 1 r w 0 (Change.Float r w) (rw h)
-  change-back (Change.Pair r x y) h = at-kind 2 r x y (Change.Pair r x y) (rw h)
-  change-back (Change.General r w) h = at-kind 3 r w 0 (Change.General r w) (rw h)
-  change-back (Change.Two a w) h = at-kind 4 a w 0 (Change.Two a w) refl
-  change-back (Change.Four a x y) h = at-kind 5 a x y (Change.Four a x y) refl
+  change-back Change.Nothing h = let none : packed s + 2 ^ 19 * 0 ≡ packed s = omega arith in rw none at (at-kind 0 0 0 0 Change.Nothing (omega arith) refl)
+  change-back (Change.Float r w) h = at-kind 1 r w 0 (Change.Float r w) (omega arith) (rw h)
+  change-back (Change.Pair r x y) h = at-kind 2 r x y (Change.Pair r x y) (omega arith) (rw h)
+  change-back (Change.General r w) h = at-kind 3 r w 0 (Change.General r w) (omega arith) (rw h)
+  change-back (Change.Two a w) h = at-kind 4 a w 0 (Change.Two a w) (omega arith) refl
+  change-back (Change.Four a x y) h = at-kind 5 a x y (Change.Four a x y) (omega arith) refl
 
 -- what is encoded is decoded
 pub decoded-encoded : (e : Effect) → Recordable e → decoded (encoded e) ≡ gives e
-decoded-encoded e r = change-back (e .status) (r .pointer) (r .condition) (r .mask) (e .change) (r .registers)
+decoded-encoded e r = change-back (e .status) (r .pointer) (r .condition) (r .mask) (r .selector) (e .change) (r .registers)
 
 -- what is taken out of word 0 is of its width
-narrow : (w : ℕ) → (unpacked w .mask ≤ 1) × (unpacked w .pointer < 65536)
+narrow : (w : ℕ) → (unpacked w .mask ≤ 1) × (unpacked w .selector ≤ 1) × (unpacked w .pointer < 65536)
 unfolding unpacked
-narrow w = (omega arith, omega arith)
+narrow w = (omega arith, omega arith, omega arith)
 
 -- and nothing else is
 read-formed : (q : Record) (e : Effect) → decoded q ≡ gives e → (q ≡ encoded e) × Recordable e
 read-formed q e h =
     let d = decoded-gives q e h in
     let w = q .head in
-    let same = d .1 in (
-      rw (← same, ← d .2 .words (packed (unpacked w)), head-back w),
+    let same = d .status in (
+      rw (← same, ← d .change .words (packed (unpacked w)), head-back w (d .head)),
       record {
-        condition = subst (λ (s : Status). conditionFormed (s .condition) ≡ true) same (d .0);
+        condition = subst (λ (s : Status). conditionFormed (s .condition) ≡ true) same (d .condition);
         mask = subst (λ (s : Status). s .mask ≤ 1) same (narrow w .0);
-        pointer = subst (λ (s : Status). s .pointer < 65536) same (narrow w .1);
-        registers = d .2 .registers;
+        selector = subst (λ (s : Status). s .selector ≤ 1) same (narrow w .1);
+        pointer = subst (λ (s : Status). s .pointer < 65536) same (narrow w .2);
+        registers = d .change .registers;
       },
     )
 

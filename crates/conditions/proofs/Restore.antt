@@ -1,11 +1,15 @@
 -- A change and then the change to the old contents leaves registers and memory as they were.
-use Prim.Native.Nat.{ℕ, zero, suc, _+_, _*_, _/_, _%_, _<_}
+use Prim.Native.Nat.{ℕ, zero, suc, _+_, _*_, _/_, _%_, _<_, _≤_}
 use mathlib.Core.Path.{_≡_, refl, sym, ap, _∙_}
 use mathlib.Core.Logic.{_≢_}
 use mathlib.Core.List.{List, [], _∷_}
+use mathlib.Core.Bool.{true}
 use lib.ListN.{length, getD, set, length-set}
 use lib.Seq.{set-set, set-comm, set-getD}
 use native.Mathlib.Omega.{arith}
+use borrow.Author.Tests.{leb-true}
+use Rattle.orders.specs.General.{generalCell}
+use Rattle.orders.proofs.Generals.{register-there}
 use Rattle.protection.specs.Form.{ProtectList}
 use Rattle.machine.specs.declared.change.Change.{Change}
 use Rattle.machine.specs.declared.state.Registers.{Registers}
@@ -29,14 +33,19 @@ float-back g m (Change.General r w) = refl
 float-back g m (Change.Two a w) = refl
 float-back g m (Change.Four a x y) = refl
 
-pub general-back : (g : Registers) (m : List ℕ) (ch : Change) → generalAfter (oldOf g m ch) (generalAfter ch (g .general)) ≡ g .general
-unfolding generalAfter oldOf
-general-back g m Change.Nothing = refl
-general-back g m (Change.Float r w) = refl
-general-back g m (Change.Pair r x y) = refl
-general-back g m (Change.General r w) = rw (set-set (g .general) r w (getD (g .general) r 0)) (set-getD (g .general) r 0)
-general-back g m (Change.Two a w) = refl
-general-back g m (Change.Four a x y) = refl
+-- in the set that was selected
+pub general-back :
+    (g : Registers) (m : List ℕ) (ch : Change) → registered ch ≡ true → g .status .selector ≤ 1 →
+    generalAfter (oldOf g m ch) (generalAfter ch (g .general) (g .status .selector)) (g .status .selector) ≡ g .general
+unfolding generalAfter oldOf registered
+general-back g m Change.Nothing h s = refl
+general-back g m (Change.Float r w) h s = refl
+general-back g m (Change.Pair r x y) h s = refl
+general-back g m (Change.General r w) h s =
+    let c = generalCell (g .status .selector) r in
+    rw (register-there (g .general) (g .status .selector) r s (leb-true r 7 h), set-set (g .general) c w (getD (g .general) c 0)) (set-getD (g .general) c 0)
+general-back g m (Change.Two a w) h s = refl
+general-back g m (Change.Four a x y) h s = refl
 
 -- a word put at a and the word that was there put back
 word-back : (m : List ℕ) → Halfwords m → (a w : ℕ) → putWord a (wordAt m a) (putWord a w m) ≡ m

@@ -8,6 +8,7 @@ use Rattle.conditions.proofs.Packed.{same-over, as-before}
 use Rattle.conditions.proofs.Protected.{protected-keeps}
 use Rattle.conditions.proofs.Records.{read-by-form}
 use Rattle.conditions.proofs.Return.{back-and-forth, refused-at-start}
+use Rattle.conditions.proofs.Sets.{one-set}
 use Rattle.conditions.proofs.Trail.{as-trail, included}
 use Rattle.conditions.proofs.Unindexed.{unindexed}
 use Rattle.conditions.proofs.Writes.{one-record}
@@ -28,4 +29,5 @@ theorems = record {
   as-before = as-before;
   absent-above = absent-above;
   unindexed = λ d p x none. unindexed d p none x;
+  one-set = one-set;
 }

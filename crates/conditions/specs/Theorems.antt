@@ -8,11 +8,13 @@ use lib.ListN.{length, getD, replicate}
 use Rattle.hexfloat.specs.Answer.{gives}
 use Rattle.orders.specs.declared.order.Operation.{Operation}
 use Rattle.orders.specs.declared.order.Place.{Place}
+use Rattle.orders.specs.General.{generalAt}
 use Rattle.orders.specs.Order.{legalOf}
 use Rattle.protection.specs.Form.{ProtectList, isProtected}
 use Rattle.protection.specs.Bits.{bitForm, bitwise}
 use Rattle.protection.specs.Bytes.{byteForm, bytewise, unpacked}
 use Rattle.protection.specs.Theorems.{Alike}
+use Rattle.machine.specs.declared.state.Registers.{Registers}
 use Rattle.machine.specs.declared.verdict.Effect.{Effect}
 use Rattle.machine.specs.Back.{backed}
 use Rattle.machine.specs.declared.journal.Record.{Record}
@@ -111,8 +113,8 @@ pub record OneOfTheNumbers (d : List ℕ) (p : ProtectList) (x : Machine) : Type
   pub run : (limit : ℕ) → ran d p limit x .stop ≤ 13
   pub back : BackNumber (backed p x .stop)
 
--- A record is read exactly if it is of the form: it is the record of what it gives, with condition code 0, 1 or 3, mask 0 or 1, a 16-bit pointer and
--- registers below 8.
+-- A record is read exactly if it is of the form: it is the record of what it gives, with condition code 0, 1 or 3, mask and selector 0 or 1, a 16-bit
+-- pointer and registers below 8.
 pub record ReadByForm (q : Record) (e : Effect) : Type 0 where
   pub formed : decoded q ≡ gives e → (q ≡ encoded e) × Recordable e
   pub read : q ≡ encoded e → Recordable e → decoded q ≡ gives e
@@ -155,6 +157,16 @@ pub record AsBefore (d p : List ℕ) (x : Machine) : Type 0 where
       (q : List ℕ) → length p ≡ length q → ((a : ℕ) → a < length (x .memory) → isProtected (bitwise p) a ≡ isProtected (bitwise q) a) →
       SameOver d (bitwise p) (bitwise q) x
 
+-- Two sets of general registers (document 02, Job 8), where a step leaves the registers g: every register of a set that was not selected is as it was, and so
+-- is the selector unless the order was SET, code 35.
+pub record OneSetAfter (d : List ℕ) (x : Machine) (g : Registers) : Type 0 where
+  pub other :
+      (s r : ℕ) → (s ≡ x .state .registers .status .selector → ⊥) → generalAt (g .general) s r ≡ generalAt (x .state .registers .general) s r
+  pub selector : (nextOrder d x .code ≡ 35 → ⊥) → g .status .selector ≡ x .state .registers .status .selector
+
+abbrev pub OneSet : List ℕ → ProtectList → Machine → Type 0
+OneSet d p x = OneSetAfter d x (stepped d p x .after .state .registers)
+
 pub record Theorems : Type 0 where
   pub as-trail : (d : List ℕ) (p : ProtectList) (x : Machine) (cs : List Call) → Typed (x .memory) → Included d p x cs → AsTrail d p x cs
   -- the start alone decides: unless a back step there is the call that is left out, every list is included
@@ -180,3 +192,4 @@ pub record Theorems : Type 0 where
       op .place ≡ Place.Storage → x .state .used < length (x .journal) / 4 → 65536 ≤ nextAddress d x → stepped d p x ≡ outcome x 0 6
   -- Over a deck in which r2 is 0 in every order with a storage operand all is as it was before
   pub unindexed : (d : List ℕ) (p : ProtectList) (x : Machine) → NoIndexIn d → SameCalls (called d p) (unindexedCalled d p) x
+  pub one-set : (d : List ℕ) (p : ProtectList) (x : Machine) → OneSet d p x

@@ -24,7 +24,7 @@ codeAmongKeys (m ∷ ms) n k = cond (eqb k (nameKey m)) (gives n) (codeAmongKeys
 unfoldable pub codeByKey : ℕ → Answer ℕ
 codeByKey k = codeAmongKeys mnemonics 1 k
 
--- the slot of a key, by one multiplication: no two mnemonics share one, with the one that a later order brings too
+-- the slot of a key, by one multiplication: no two mnemonics share one
 unfoldable pub slotOf : ℕ → ℕ
 slotOf k = k * 1725579 / 0x4000000 % 64
 

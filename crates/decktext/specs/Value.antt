@@ -94,6 +94,7 @@ mnemonics =
     ∷ (77 ∷ 69 ∷ [])  -- ME
     ∷ (77 ∷ 69 ∷ 68 ∷ 82 ∷ [])  -- MEDR
     ∷ (77 ∷ 69 ∷ 68 ∷ [])  -- MED
+    ∷ (83 ∷ 69 ∷ 84 ∷ [])  -- SET
     ∷ []
 
 -- the code of a name among some mnemonics, the first of which has the code n

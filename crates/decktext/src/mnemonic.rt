@@ -78,7 +78,7 @@ const SLOTS: [u64; 64] = [
     0x908298a916, // HALT
     0,
     0xa68aa4d9, // SER
-    0,
+    0xa68aa8e3, // SET
     0x868a86, // CE
     0,
     // slots from 24 on

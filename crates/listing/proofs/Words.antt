@@ -7,6 +7,7 @@ use native.Mathlib.Numerals.{add-one}
 use lib.ListN.{length, getD, length-append}
 use native.Mathlib.Omega.{arith}
 use Rattle.hexfloat.proofs.Digits.{four-bits}
+use Rattle.orders.specs.General.{generalAt}
 use Rattle.listing.specs.Digits.{digit, hexadecimal}
 use Rattle.listing.specs.Listing.{registerLine, registerLines}
 
@@ -30,13 +31,13 @@ word-length zero n = refl
 word-length (suc k) n = length-append (hexadecimal k (n / 16)) (digit (n % 16) ∷ []) ∙ ap (λ (x : ℕ). x + 1) (word-length k (n / 16)) ∙ add-one k
 
 -- a register's line has 20 bytes
-pub lines-length : (k : ℕ) (f g : List ℕ) → length (registerLines k f g) ≡ k * 20
+pub lines-length : (k : ℕ) (f g : List ℕ) (s : ℕ) → length (registerLines k f g s) ≡ k * 20
 unfolding registerLines
-lines-length zero f g = refl
-lines-length (suc k) f g =
-    length-append (registerLines k f g) (registerLine k (getD f k 0) (getD g k 0))
-    ∙ ap₂ (λ (x y : ℕ). x + y) (lines-length k f g) line-length
+lines-length zero f g s = refl
+lines-length (suc k) f g s =
+    length-append (registerLines k f g s) (registerLine k (getD f k 0) (generalAt g s k))
+    ∙ ap₂ (λ (x y : ℕ). x + y) (lines-length k f g s) line-length
     ∙ sym (suc-mul k 20)
   where
-    line-length : length (registerLine k (getD f k 0) (getD g k 0)) ≡ 20
+    line-length : length (registerLine k (getD f k 0) (generalAt g s k)) ≡ 20
     line-length = simp (length-append, word-length)

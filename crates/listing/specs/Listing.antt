@@ -2,6 +2,7 @@
 use Prim.Native.Nat.{ℕ, zero, suc, _*_, _+_}
 use mathlib.Core.List.{List, [], _∷_, _++_}
 use lib.ListN.{getD, take, replicate}
+use Rattle.orders.specs.General.{generalAt}
 use Rattle.protection.specs.Bits.{bitwise}
 use Rattle.machine.specs.declared.state.Registers.{Registers}
 use Rattle.machine.specs.Fresh.{freshState}
@@ -36,17 +37,17 @@ refusal number line = refusalHeading ++ (field number 32 ++ field line 10)
 abbrev pub registerLine : ℕ → ℕ → ℕ → List ℕ
 registerLine r f g = ((48 + r) ∷ 32 ∷ []) ++ (hexadecimal 8 f ++ ((32 ∷ []) ++ (hexadecimal 8 g ++ (10 ∷ []))))
 
--- the lines of the first k registers
-unfoldable pub registerLines : ℕ → List ℕ → List ℕ → List ℕ
-registerLines zero f g = []
-registerLines (suc k) f g = registerLines k f g ++ registerLine k (getD f k 0) (getD g k 0)
+-- the lines of the first k registers: the float ones, and the general ones of the selected set s (document 02, Job 8)
+unfoldable pub registerLines : ℕ → List ℕ → List ℕ → ℕ → List ℕ
+registerLines zero f g s = []
+registerLines (suc k) f g s = registerLines k f g s ++ registerLine k (getD f k 0) (generalAt g s k)
 
 -- steps taken, stop, pointer, condition code and mask, then the registers
 unfoldable pub listed : ℕ → ℕ → Registers → List ℕ
 listed steps stop g =
     runHeading
     ++ (field steps 32 ++ (field stop 32 ++ (field (g .status .pointer) 32 ++ (field (g .status .condition) 32 ++ (field (g .status .mask) 10
-    ++ (registerHeading ++ registerLines 8 (g .float) (g .general)))))))
+    ++ (registerHeading ++ registerLines 8 (g .float) (g .general) (g .status .selector)))))))
 
 -- 4,096 blank halfwords, unprotected, and cells for 4,096 orders; the protect list of 4,096 halfwords has 512 bytes
 abbrev pub blank : Buffers

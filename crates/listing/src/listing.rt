@@ -8,6 +8,7 @@ use crate::text::with_word;
 use decktext::Reading;
 use machine::Ran;
 use machine::Registers;
+use orders::general_at;
 ghost use mathlib.Core.Path.{_≡_};
 ghost use Prim.Native.Nat.{_+_, _<_, _≤_};
 ghost use Rattle.machine.specs.Stops.{numberOf};
@@ -84,16 +85,19 @@ fn list_run(r: Ran) -> Listing
     with_registers(registers, g)
 }
 
+// The float registers beside the general ones of the selected set.
 fn with_registers(t: Listing, g: Registers) -> Listing
     requires { ⌜ t .length ≤ 160 ⌝ }
-    ensures { λ r. ⌜ Appended t r (registerLines 8 (g .float) (g .general)) ⌝ }
+    ensures { λ r. ⌜ Appended t r (registerLines 8 (g .float) (g .general) (g .status .selector)) ⌝ }
 {
     let mut next = t;
     let float = g.float;
     let general = g.general;
+    let selector = g.status.selector;
     let mut i = 0;
     while i < 8 {
-        next = with_register(next, i as u8, float[i], general[i]);
+        let word = general_at(&general, selector, i as u32);
+        next = with_register(next, i as u8, float[i], word);
         i += 1;
     }
     next

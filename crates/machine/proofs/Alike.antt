@@ -18,13 +18,13 @@ use Rattle.machine.specs.declared.state.Registers.{Registers}
 use Rattle.machine.specs.declared.state.State.{State}
 use Rattle.machine.specs.declared.state.Status.{Status}
 use Rattle.machine.specs.declared.verdict.Effect.{Effect}
-use Rattle.orders.specs.Address.{addressOf}
 use Rattle.machine.specs.Back.{allowed, returning}
 use Rattle.machine.specs.Change.{placed, guarded}
 use Rattle.machine.specs.Check.{buffersSized, present, anyProtected}
 use Rattle.machine.specs.Decide.{heldStop, entryStop, accessed, judged, judgedAt, decided}
 use Rattle.machine.specs.Effect.{effectOf}
 use Rattle.machine.specs.Journal.{recordAt, decoded}
+use Rattle.machine.specs.Operand.{addressIn}
 use Rattle.hexfloat.proofs.Answers.{provided-same, checked-same, then-same}
 use Rattle.machine.proofs.Checks.{held, entered, reach, present-fewer}
 use Rattle.machine.proofs.Rows.{legal-passed}
@@ -103,7 +103,7 @@ module _ (d : List ℕ) (p q : ProtectList) (g : Registers) (used : ℕ) (m : Li
       o = orderAt d (g .status .pointer)
 
       a : ℕ
-      a = addressOf o (g .general)
+      a = addressIn o g
 
       further : ProtectList → Answer Effect
       further l = provided (ltb (g .status .pointer) (length d / 4)) 4 (judgedAt o g used l m journal)

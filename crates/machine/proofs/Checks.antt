@@ -19,6 +19,7 @@ pub record Held (p : ProtectList) (s : Status) (used memory journal : ℕ) : Typ
   pub cover : covers p memory ≡ true
   pub condition : conditionFormed (s .condition) ≡ true
   pub mask : s .mask ≤ 1
+  pub selector : s .selector ≤ 1
   pub room : used ≤ journal / 4
 
 -- check 1
@@ -43,13 +44,15 @@ module _ (p : ProtectList) (s : Status) (used memory journal : ℕ) where
       let b = both (leb memory 32768) (leb journal 16384 && covers p memory) (c .0) in
       let d = both (leb journal 16384) (covers p memory) (b .1) in
       let f = both (statusFormed s) (leb used (journal / 4)) (c .1) in
-      let e = both (conditionFormed (s .condition)) (leb (s .mask) 1) (f .0) in
+      let e = both (conditionFormed (s .condition)) (leb (s .mask) 1 && leb (s .selector) 1) (f .0) in
+      let t = both (leb (s .mask) 1) (leb (s .selector) 1) (e .1) in
       record {
         memory-size = leb-true memory 32768 (b .0);
         journal-size = leb-true journal 16384 (d .0);
         cover = d .1;
         condition = e .0;
-        mask = leb-true (s .mask) 1 (e .1);
+        mask = leb-true (s .mask) 1 (t .0);
+        selector = leb-true (s .selector) 1 (t .1);
         room = leb-true used (journal / 4) (f .1);
       }
 
@@ -63,6 +66,7 @@ module _ (p : ProtectList) (s : Status) (used memory journal : ℕ) where
         h .cover,
         h .condition,
         le-leb (s .mask) 1 (h .mask),
+        le-leb (s .selector) 1 (h .selector),
         le-leb used (journal / 4) (h .room),
       )
 
@@ -105,9 +109,9 @@ condition-below c h = cases (eqb c 0) (eqb c 1) (eqb c 3) refl refl refl h
     cases false false true a b d h = omega (arith, eqb-true c 3 d)
     cases false false false a b d h = absurd (let y : _≡_ {A = ℕ} 0 1 = cc in omega arith)
 
--- so it is packed into two bits, and the mask into one
-pub packable : {s : Status} → conditionFormed (s .condition) ≡ true → s .mask ≤ 1 → Packable s
-packable {s} c m = record { condition = condition-below (s .condition) c; mask = omega arith }
+-- so it is packed into two bits, and mask and selector into one each
+pub packable : {s : Status} → conditionFormed (s .condition) ≡ true → s .mask ≤ 1 → s .selector ≤ 1 → Packable s
+packable {s} c m t = record { condition = condition-below (s .condition) c; mask = omega arith; selector = omega arith }
 
 -- halfwords that are there
 pub reach : (span a n : ℕ) → present span a n ≡ true → 0 < span → a + span ≤ n

@@ -18,11 +18,10 @@ use Rattle.orders.specs.declared.order.Verb.{Verb}
 use Rattle.protection.specs.Form.{ProtectList}
 use Rattle.machine.specs.declared.state.Registers.{Registers}
 use Rattle.machine.specs.declared.verdict.Effect.{Effect}
-use Rattle.orders.specs.Address.{addressOf}
 use Rattle.machine.specs.Check.{present, anyProtected}
 use Rattle.machine.specs.Decide.{entryStop, judged, decided}
 use Rattle.machine.specs.Effect.{fixedInto, resultInto, productWidth, performed, effectOf}
-use Rattle.machine.specs.Operand.{floatOperand, secondOperand}
+use Rattle.machine.specs.Operand.{floatOperand, secondOperand, addressIn}
 use Rattle.orders.specs.Order.{rowAmong, rows, operationOf, withinLimits, legalOf, spanOf, storedOf, isHalt, orderAt}
 use Rattle.hexfloat.proofs.Answers.{StopsBy, provided-by, checked-by, mapped-by, then-by, cond-by, numbered-by}
 use Rattle.machine.proofs.Checks.{entry-number}
@@ -53,10 +52,11 @@ module _ (P : ℕ → Type 0) (within : (n : ℕ) → 8 ≤ n → n ≤ 11 → P
   performed-by Verb.Multiply w o g a b h =
       result-by 9 (omega arith) (resultInto false (productWidth w (o .r1)) (g .status) (o .r1))
       (stops-numbered .product w (productWidth w (o .r1)) (eqb (g .status .mask) 1) (floatOperand w (g .float) (o .r1)) b)
+  performed-by Verb.Select w o g a b h = tt
 
   pub effect-by : (op : Operation) (o : Order) (g : Registers) (m : List ℕ) (a : ℕ) → (isHalt (op .verb) ≡ true → P 12) → StopsBy P (effectOf op o g m a)
   unfolding effectOf
-  effect-by op o g m a h = performed-by (op .verb) (op .width) o g a (secondOperand (op .place) (op .width) o (g .float) (g .general) m a) h
+  effect-by op o g m a h = performed-by (op .verb) (op .width) o g a (secondOperand (op .place) (op .width) o (g .float) (g .general) (g .status .selector) m a) h
 
 -- check 5 answers 5
 module _ (P : ℕ → Type 0) (five : P 5) where
@@ -92,7 +92,7 @@ pub decided-by : (d : List ℕ) (p : ProtectList) (g : Registers) (used : ℕ) (
 unfolding decided
 decided-by d p g used m journal =
     let o = orderAt d (g .status .pointer) in
-    let a = addressOf o (g .general) in
+    let a = addressIn o g in
     let k = entryStop (length d) p (g .status) used (length m) journal in
     checked-by StepNumber k _ (λ z. record { some = omega arith; most = omega (arith, entry-number p (g .status) used (length m) journal (length d)) })
     (provided-by StepNumber (ltb (g .status .pointer) (length d / 4)) 4 _ (number 4 (omega arith) (omega arith))

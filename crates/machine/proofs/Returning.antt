@@ -1,12 +1,12 @@
 -- What a back step that is taken says of its checks and of what its record puts back.
-use Prim.Native.Nat.{ℕ, _+_, _-_, _*_, _/_, _^_, _≤_}
+use Prim.Native.Nat.{ℕ, _+_, _-_, _*_, _/_, _%_, _^_, _<_, _≤_}
 use mathlib.Core.Path.{_≡_, refl, ap, subst, _∙_}
 use mathlib.Core.List.{List}
 use mathlib.Core.Bool.{Bool, true, false, cond, not}
-use lib.Dec.{eqb, leb}
+use lib.Dec.{eqb, leb, ltb}
 use lib.ListN.{length}
 use native.Mathlib.Omega.{arith}
-use borrow.Author.Tests.{eqb-true, eqb-false, not-true}
+use borrow.Author.Tests.{eqb-true, eqb-false, ltb-true, not-true}
 use Rattle.hexfloat.specs.Answer.{gives, stops, provided}
 use Rattle.protection.specs.Form.{ProtectList}
 use Rattle.machine.specs.declared.change.Change.{Change}
@@ -24,6 +24,7 @@ pub record Returned (p : ProtectList) (s : State) (memory : ℕ) (journal : ℕ)
   pub held : heldStop p (s .registers .status) (s .used) memory journal ≡ 0
   pub used : 1 ≤ s .used
   pub registers : registered (e .change) ≡ true
+  pub selector : e .status .selector ≤ 1
   pub there : placed (e .change) memory ≡ true
   pub free : guarded p (e .change) ≡ false
 
@@ -87,19 +88,31 @@ module _ (kind place left right : ℕ) (ch : Change) where
       cases false false false false false true _ _ _ _ _ k i = formed-as (Change.Four place left right) i refl (λ base. rw (eqb-true kind 5 k))
       cases false false false false false false _ _ _ _ _ _ i = never i
 
--- what a record that is read says: its condition code is of the form, and its change
-pub decoded-gives :
-    (q : Record) (e : Effect) → decoded q ≡ gives e →
-    (conditionFormed (unpacked (q .head) .condition) ≡ true) × (unpacked (q .head) ≡ e .status) × Formed (q .head / 2 ^ 19) (q .place) (q .left) (q .right) (e .change)
+-- what a record that is read says: its condition code is of the form, no bit above 22 is set, and its status and change
+pub record Decodes (q : Record) (e : Effect) : Type 0 where
+  pub condition : conditionFormed (unpacked (q .head) .condition) ≡ true
+  pub head : q .head < 2 ^ 23
+  pub status : unpacked (q .head) ≡ e .status
+  pub change : Formed (q .head / 2 ^ 19 % 8) (q .place) (q .left) (q .right) (e .change)
+
+pub decoded-gives : (q : Record) (e : Effect) → decoded q ≡ gives e → Decodes q e
 unfolding decoded
 decoded-gives q e h =
+    let kind = q .head / 2 ^ 19 % 8 in
     let k = provided-gives (conditionFormed (unpacked (q .head) .condition)) 15 _ h in
-    let m = mapped-gives (effectFrom (unpacked (q .head))) (changeFrom (q .head / 2 ^ 19) (q .place) (q .left) (q .right)) (k .1) in
-    let f = change-formed (q .head / 2 ^ 19) (q .place) (q .left) (q .right) (m .0) (m .1) in (
-      k .0,
-      ap (λ (x : Effect). x .status) (m .2),
-      subst (λ (x : Effect). Formed (q .head / 2 ^ 19) (q .place) (q .left) (q .right) (x .change)) (m .2) f,
-    )
+    let l = provided-gives (ltb (q .head) (2 ^ 23)) 15 _ (k .1) in
+    let m = mapped-gives (effectFrom (unpacked (q .head))) (changeFrom kind (q .place) (q .left) (q .right)) (l .1) in
+    record {
+      condition = k .0;
+      head = ltb-true (q .head) (2 ^ 23) (l .0);
+      status = ap (λ (x : Effect). x .status) (m .2);
+      change = subst (λ (x : Effect). Formed kind (q .place) (q .left) (q .right) (x .change)) (m .2) (change-formed kind (q .place) (q .left) (q .right) (m .0) (m .1));
+    }
+
+-- of the selector there is one bit
+unpacked-selector : (w : ℕ) → unpacked w .selector ≤ 1
+unfolding unpacked
+unpacked-selector w = omega arith
 
 module _ (p : ProtectList) (memory : ℕ) where
   allowed-gives : (e x : Effect) → allowed e p memory ≡ gives x → (e ≡ x) × (placed (x .change) memory ≡ true) × (guarded p (x .change) ≡ false)
@@ -116,12 +129,15 @@ module _ (p : ProtectList) (memory : ℕ) where
       let k = checked-gives (heldStop p (s .registers .status) (s .used) memory (length j)) _ h in
       let l = provided-gives (not (eqb (s .used) 0)) 14 _ (k .1) in
       let t = then-gives (decoded (recordAt j (s .used - 1))) (λ x. allowed x p memory) (l .1) in
+      let q = recordAt j (s .used - 1) in
       let a = allowed-gives (t .0) e (t .2) in
+      let read = decoded-gives q (t .0) (t .1) in
       let some = eqb-false (s .used) 0 (not-true (eqb (s .used) 0) (l .0)) in
       record {
         held = k .0;
         used = omega arith;
-        registers = rw (a .0) at (decoded-gives (recordAt j (s .used - 1)) (t .0) (t .1) .2 .registers);
+        registers = rw (a .0) at (read .change .registers);
+        selector = rw (read .status, a .0) at (unpacked-selector (q .head));
         there = a .1;
         free = a .2;
       }

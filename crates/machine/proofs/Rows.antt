@@ -14,30 +14,31 @@ use Rattle.hexfloat.proofs.Answers.{both}
 use Rattle.orders.proofs.Passing.{legal-row}
 use Rattle.orders.proofs.Table.{allRows, row-passes}
 
--- UM alone writes r2 into the mask
-unfoldable pub maskFits : Verb → ℕ → Bool
-maskFits Verb.Load r = true
-maskFits Verb.Complement r = true
-maskFits Verb.Compare r = true
-maskFits Verb.Fix r = true
-maskFits Verb.Float r = true
-maskFits Verb.Divide r = true
-maskFits Verb.Store r = true
-maskFits Verb.LoadGeneral r = true
-maskFits Verb.StoreGeneral r = true
-maskFits Verb.SetMask r = leb r 1
-maskFits Verb.Jump r = true
-maskFits Verb.CountDown r = true
-maskFits Verb.Halt r = true
-maskFits (Verb.Sum s) r = true
-maskFits Verb.Multiply r = true
+-- UM and SET alone write r2 into the status: the mask, the selector
+unfoldable pub bitFits : Verb → ℕ → Bool
+bitFits Verb.Load r = true
+bitFits Verb.Complement r = true
+bitFits Verb.Compare r = true
+bitFits Verb.Fix r = true
+bitFits Verb.Float r = true
+bitFits Verb.Divide r = true
+bitFits Verb.Store r = true
+bitFits Verb.LoadGeneral r = true
+bitFits Verb.StoreGeneral r = true
+bitFits Verb.SetMask r = leb r 1
+bitFits Verb.Jump r = true
+bitFits Verb.CountDown r = true
+bitFits Verb.Halt r = true
+bitFits (Verb.Sum s) r = true
+bitFits Verb.Multiply r = true
+bitFits Verb.Select r = leb r 1
 
--- no register above 7; what is stored is a part of S, which has at most four halfwords; a mask is 0 or 1
-unfoldable fitting : Operation → Bool
-fitting op = leb (op .r1) 7 && (leb (op .r2) 7 && (leb (storedOf op) (spanOf op) && (leb (spanOf op) 4 && maskFits (op .verb) (op .r2))))
+-- no register above 7; what is stored is a part of S, which has at most four halfwords; a mask or selector is 0 or 1
+unfoldable fitting : ℕ → Operation → Bool
+fitting code op = leb (op .r1) 7 && (leb (op .r2) 7 && (leb (storedOf op) (spanOf op) && (leb (spanOf op) 4 && bitFits (op .verb) (op .r2))))
 
-rows-fit : allRows fitting rows ≡ true
-unfolding allRows fitting maskFits
+rows-fit : allRows fitting rows 1 ≡ true
+unfolding allRows fitting bitFits
 rows-fit = refl
 
 -- of an operation that check 5 lets pass, with its order
@@ -48,15 +49,15 @@ pub record Passed (op : Operation) (o : Order) : Type 0 where
   pub second : o .r2 ≤ 7
   pub stored : storedOf op ≤ spanOf op
   pub span : spanOf op ≤ 4
-  pub mask : maskFits (op .verb) (op .r2) ≡ true
+  pub bit : bitFits (op .verb) (op .r2) ≡ true
 
-passed : (op : Operation) (o : Order) → fitting op ≡ true → withinLimits op o ≡ true → Passed op o
+passed : (op : Operation) (o : Order) → fitting (o .code) op ≡ true → withinLimits op o ≡ true → Passed op o
 unfolding withinLimits fitting
 passed op o f w =
-    let a = both (leb (op .r1) 7) (leb (op .r2) 7 && (leb (storedOf op) (spanOf op) && (leb (spanOf op) 4 && maskFits (op .verb) (op .r2)))) f in
-    let b = both (leb (op .r2) 7) (leb (storedOf op) (spanOf op) && (leb (spanOf op) 4 && maskFits (op .verb) (op .r2))) (a .1) in
-    let c = both (leb (storedOf op) (spanOf op)) (leb (spanOf op) 4 && maskFits (op .verb) (op .r2)) (b .1) in
-    let d = both (leb (spanOf op) 4) (maskFits (op .verb) (op .r2)) (c .1) in
+    let a = both (leb (op .r1) 7) (leb (op .r2) 7 && (leb (storedOf op) (spanOf op) && (leb (spanOf op) 4 && bitFits (op .verb) (op .r2)))) f in
+    let b = both (leb (op .r2) 7) (leb (storedOf op) (spanOf op) && (leb (spanOf op) 4 && bitFits (op .verb) (op .r2))) (a .1) in
+    let c = both (leb (storedOf op) (spanOf op)) (leb (spanOf op) 4 && bitFits (op .verb) (op .r2)) (b .1) in
+    let d = both (leb (spanOf op) 4) (bitFits (op .verb) (op .r2)) (c .1) in
     let x = both (leb (o .r1) (op .r1)) (leb (o .r2) (op .r2) && leb (o .at) (op .at)) w in
     let y = both (leb (o .r2) (op .r2)) (leb (o .at) (op .at)) (x .1) in
     let r1 : o .r1 ≤ op .r1 = leb-true (o .r1) (op .r1) (x .0) in
@@ -68,7 +69,7 @@ passed op o f w =
       second = omega (arith, leb-true (op .r2) 7 (b .0));
       stored = leb-true (storedOf op) (spanOf op) (c .0);
       span = leb-true (spanOf op) 4 (d .0);
-      mask = d .1;
+      bit = d .1;
     }
 
 pub legal-passed : (o : Order) (op : Operation) → legalOf o ≡ gives op → Passed op o

@@ -22,11 +22,10 @@ use Rattle.orders.proofs.Unindexed.{legal-unindexed}
 use Rattle.protection.specs.Form.{ProtectList}
 use Rattle.machine.specs.declared.state.Registers.{Registers}
 use Rattle.machine.specs.declared.verdict.Effect.{Effect}
-use Rattle.orders.specs.Address.{addressOf}
 use Rattle.machine.specs.Check.{present, anyProtected}
 use Rattle.machine.specs.Decide.{entryStop, accessed, judged, judgedAt, decided}
 use Rattle.machine.specs.Effect.{performed, effectOf}
-use Rattle.machine.specs.Operand.{secondOperand}
+use Rattle.machine.specs.Operand.{secondOperand, addressIn}
 use Rattle.machine.specs.Unindexed.{unindexedJudged, unindexedDecided}
 use Rattle.orders.proofs.Addresses.{address-plain}
 use Rattle.machine.proofs.Placed.{some}
@@ -50,6 +49,7 @@ performed-anywhere Verb.CountDown w o g a c b h = refl
 performed-anywhere Verb.Halt w o g a c b h = refl
 performed-anywhere (Verb.Sum s) w o g a c b h = refl
 performed-anywhere Verb.Multiply w o g a c b h = refl
+performed-anywhere Verb.Select w o g a c b h = refl
 
 module _ (o : Order) (g : Registers) (p : ProtectList) (m : List ℕ) (a c : ℕ) where
   -- an order without storage operand has no address
@@ -74,7 +74,7 @@ module _ (o : Order) (g : Registers) (p : ProtectList) (m : List ℕ) (a c : ℕ
       reading q s =
           provided (present (spanAs q w) s (length m)) 6
           (provided (not (anyProtected p s (storedAs v w))) 7
-          (performed v w o g s (secondOperand q w o (g .float) (g .general) m s)))
+          (performed v w o g s (secondOperand q w o (g .float) (g .general) (g .status .selector) m s)))
 
       cases : (q : Place) → storedAs v w ≤ spanAs q w → (q ≡ Place.Storage → a ≡ c) → reading q a ≡ reading q c
       cases Place.Nowhere h k = elsewhere v w (omega arith) _
@@ -83,11 +83,11 @@ module _ (o : Order) (g : Registers) (p : ProtectList) (m : List ℕ) (a c : ℕ
       cases Place.Storage h k = ap (reading Place.Storage) (k refl)
 
 module _ (o : Order) (none : NoIndex o) (g : Registers) (used : ℕ) (p : ProtectList) (m : List ℕ) (journal : ℕ) where
-  judged-same : (op : Operation) → legalOf o ≡ gives op → judged o g used p m (addressOf o (g .general)) journal op ≡ judged o g used p m (o .at) journal (unindexedRow op)
+  judged-same : (op : Operation) → legalOf o ≡ gives op → judged o g used p m (addressIn o g) journal op ≡ judged o g used p m (o .at) journal (unindexedRow op)
   unfolding judged effectOf
   judged-same op legal =
       ap (λ (e : Answer Effect). provided (not (isHalt (op .verb))) 12 (provided (ltb used (journal / 4)) 13 e))
-      (accessed-same o g p m (addressOf o (g .general)) (o .at) op (legal-passed o op legal .stored) (λ s. address-plain o (g .general) (none op (legal-row o op legal .0) s)))
+      (accessed-same o g p m (addressIn o g) (o .at) op (legal-passed o op legal .stored) (λ s. address-plain o (g .general) (g .status .selector) (none op (legal-row o op legal .0) s)))
 
   mapped-then : {A B C : Type 0} (f : A → B) (r : Answer A) (h : B → Answer C) → andThen r (λ x. h (f x)) ≡ andThen (mapped f r) h
   mapped-then f (gives x) h = refl
@@ -95,7 +95,7 @@ module _ (o : Order) (none : NoIndex o) (g : Registers) (used : ℕ) (p : Protec
 
   pub judged-unindexed : judgedAt o g used p m journal ≡ unindexedJudged o g used p m journal
   judged-unindexed =
-      then-same (legalOf o) (judged o g used p m (addressOf o (g .general)) journal) (λ op. judged o g used p m (o .at) journal (unindexedRow op)) judged-same
+      then-same (legalOf o) (judged o g used p m (addressIn o g) journal) (λ op. judged o g used p m (o .at) journal (unindexedRow op)) judged-same
       ∙ mapped-then unindexedRow (legalOf o) (judged o g used p m (o .at) journal)
       ∙ rw (legal-unindexed o none)
 

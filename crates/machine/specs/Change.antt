@@ -11,7 +11,8 @@ use Rattle.machine.specs.declared.change.Change.{Change}
 use Rattle.machine.specs.declared.state.Registers.{Registers}
 use Rattle.machine.specs.declared.verdict.Effect.{Effect}
 use Rattle.machine.specs.Check.{anyProtected}
-use Rattle.machine.specs.Operand.{floatAt, floatPair, generalAt, wordAt, longAt}
+use Rattle.orders.specs.General.{generalCell, generalAt}
+use Rattle.machine.specs.Operand.{floatAt, floatPair, wordAt, longAt}
 
 -- no register above 7
 unfoldable pub registered : Change → Bool
@@ -57,12 +58,12 @@ unfoldable pub storageChange : Width → ℕ → Words → Change
 storageChange Width.Short at a = Change.Two at (a .high)
 storageChange Width.Long at a = fourOf at a
 
--- the same places with their present contents
+-- the same places with their present contents, a general register being of the selected set
 unfoldable pub oldOf : Registers → List ℕ → Change → Change
 oldOf g m Change.Nothing = Change.Nothing
 oldOf g m (Change.Float r w) = Change.Float r (floatAt (g .float) r)
 oldOf g m (Change.Pair r hi lo) = pairOf r (floatPair (g .float) r)
-oldOf g m (Change.General r w) = Change.General r (generalAt (g .general) r)
+oldOf g m (Change.General r w) = Change.General r (generalAt (g .general) (g .status .selector) r)
 oldOf g m (Change.Two a w) = Change.Two a (wordAt m a)
 oldOf g m (Change.Four a hi lo) = fourOf a (longAt m a)
 
@@ -74,13 +75,14 @@ floatAfter (Change.General r w) f = f
 floatAfter (Change.Two a w) f = f
 floatAfter (Change.Four a hi lo) f = f
 
-unfoldable pub generalAfter : Change → List ℕ → List ℕ
-generalAfter Change.Nothing n = n
-generalAfter (Change.Float r w) n = n
-generalAfter (Change.Pair r hi lo) n = n
-generalAfter (Change.General r w) n = set n r w
-generalAfter (Change.Two a w) n = n
-generalAfter (Change.Four a hi lo) n = n
+-- a general register is of set s; the other set keeps its contents
+unfoldable pub generalAfter : Change → List ℕ → ℕ → List ℕ
+generalAfter Change.Nothing n s = n
+generalAfter (Change.Float r w) n s = n
+generalAfter (Change.Pair r hi lo) n s = n
+generalAfter (Change.General r w) n s = set n (generalCell s r) w
+generalAfter (Change.Two a w) n s = n
+generalAfter (Change.Four a hi lo) n s = n
 
 -- two halfwords, the left one high
 abbrev pub putWord : ℕ → ℕ → List ℕ → List ℕ
@@ -94,9 +96,10 @@ memoryAfter (Change.General r w) m = m
 memoryAfter (Change.Two a w) m = putWord a w m
 memoryAfter (Change.Four a hi lo) m = putWord (a + 2) lo (putWord a hi m)
 
+-- the set is the one that the effect's own status selects: a back step's is the record's, and a step that changes a general register keeps its selector
 abbrev pub registersAfter : Effect → Registers → Registers
 registersAfter e g = record {
   float = floatAfter (e .change) (g .float);
-  general = generalAfter (e .change) (g .general);
+  general = generalAfter (e .change) (g .general) (e .status .selector);
   status = e .status;
 }

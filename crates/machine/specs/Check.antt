@@ -14,7 +14,7 @@ deckSized deck = eqb (deck % 4) 0 && leb deck 16384
 unfoldable pub buffersSized : ProtectList → ℕ → ℕ → Bool
 buffersSized p memory journal = leb memory 32768 && (leb journal 16384 && covers p memory)
 
--- 3: condition code and mask are of the form, and no more records in use than the journal has room for
+-- 3: condition code, mask and selector are of the form, and no more records in use than the journal has room for
 unfoldable pub stateFormed : Status → ℕ → ℕ → Bool
 stateFormed s used journal = statusFormed s && leb used (journal / 4)
 

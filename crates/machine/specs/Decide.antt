@@ -11,9 +11,9 @@ use Rattle.protection.specs.Form.{ProtectList}
 use Rattle.machine.specs.declared.state.Registers.{Registers}
 use Rattle.machine.specs.declared.state.Status.{Status}
 use Rattle.machine.specs.declared.verdict.Effect.{Effect}
-use Rattle.orders.specs.Address.{addressOf}
 use Rattle.machine.specs.Check.{deckSized, buffersSized, stateFormed, present, anyProtected}
 use Rattle.machine.specs.Effect.{effectOf}
+use Rattle.machine.specs.Operand.{addressIn}
 use Rattle.orders.specs.Order.{legalOf, spanOf, storedOf, isHalt, orderAt}
 
 -- the first of 2 and 3 that the table gives for this protect list, these lengths, this status and this used count, or 0
@@ -37,7 +37,7 @@ judged o g used p m a journal op = provided (not (isHalt (op .verb))) 12 (provid
 
 -- check 5 before them, and the address of S by the registers
 abbrev pub judgedAt : Order → Registers → ℕ → ProtectList → List ℕ → ℕ → Answer Effect
-judgedAt o g used p m journal = andThen (legalOf o) (judged o g used p m (addressOf o (g .general)) journal)
+judgedAt o g used p m journal = andThen (legalOf o) (judged o g used p m (addressIn o g) journal)
 
 -- checks 1 to 4, then what is decided of the order at the pointer; the journal enters by its length alone
 abbrev pub reached : List ℕ → ProtectList → Registers → ℕ → List ℕ → ℕ → (Order → Answer Effect) → Answer Effect

@@ -26,13 +26,14 @@ use Rattle.machine.specs.declared.verdict.Effect.{Effect}
 use Rattle.machine.specs.Change.{floatChange, storageChange}
 use Rattle.machine.specs.Check.{present}
 use Rattle.machine.specs.Jump.{jumped, countedDown}
-use Rattle.machine.specs.Operand.{generalAt, floatOperand, secondOperand}
+use Rattle.orders.specs.General.{generalAt}
+use Rattle.machine.specs.Operand.{floatOperand, secondOperand}
 use Rattle.orders.specs.Order.{spanOf}
 use Rattle.machine.specs.Status.{status}
 
--- a change and a condition code; the mask stays, and the pointer moves on by one
+-- a change and a condition code; mask and selector stay, and the pointer moves on by one
 abbrev pub nextEffect : Status → Change → ℕ → Effect
-nextEffect s ch c = record { change = ch; status = status c (s .mask) (s .pointer + 1) }
+nextEffect s ch c = record { change = ch; status = status c (s .mask) (s .pointer + 1) (s .selector) }
 
 -- the condition code stays as well
 abbrev pub keptCondition : Status → Change → Effect
@@ -89,7 +90,11 @@ loadedGeneral s r w = nextEffect s (Change.General r w) (generalCondition w)
 
 -- UM
 abbrev pub masked : Status → ℕ → Effect
-masked s r2 = record { change = Change.Nothing; status = status (s .condition) r2 (s .pointer + 1) }
+masked s r2 = record { change = Change.Nothing; status = status (s .condition) r2 (s .pointer + 1) (s .selector) }
+
+-- SET (document 02, Job 8)
+abbrev pub selected : Status → ℕ → Effect
+selected s r2 = record { change = Change.Nothing; status = status (s .condition) (s .mask) (s .pointer + 1) r2 }
 
 -- an order whose second operand is b; S, if it has one, is at a. HALT stops as 12, by a check before this
 unfoldable pub performed : Verb → Width → Order → Registers → ℕ → Words → Answer Effect
@@ -101,17 +106,18 @@ performed Verb.Float w o g a b = gives (floatedInto (g .status) (o .r1) (toFloat
 performed Verb.Divide w o g a b = divided w (g .status) (o .r1) (floatOperand w (g .float) (o .r1)) b
 performed Verb.Store w o g a b = gives (keptCondition (g .status) (storageChange w a (floatOperand w (g .float) (o .r1))))
 performed Verb.LoadGeneral w o g a b = gives (loadedGeneral (g .status) (o .r1) (b .high))
-performed Verb.StoreGeneral w o g a b = gives (keptCondition (g .status) (Change.Two a (generalAt (g .general) (o .r1))))
+performed Verb.StoreGeneral w o g a b = gives (keptCondition (g .status) (Change.Two a (generalAt (g .general) (g .status .selector) (o .r1))))
 performed Verb.SetMask w o g a b = gives (masked (g .status) (o .r2))
 performed Verb.Jump w o g a b = gives (jumped (g .status) (o .r1) (o .at))
-performed Verb.CountDown w o g a b = gives (countedDown (g .status) (o .r1) (generalAt (g .general) (o .r1)) (o .at))
+performed Verb.CountDown w o g a b = gives (countedDown (g .status) (o .r1) (generalAt (g .general) (g .status .selector) (o .r1)) (o .at))
 performed Verb.Halt w o g a b = stops 12
 performed (Verb.Sum sense) w o g a b = summedInto sense w (g .status) (o .r1) (floatOperand w (g .float) (o .r1)) b
 performed Verb.Multiply w o g a b = multiplied w (g .status) (o .r1) (floatOperand w (g .float) (o .r1)) b
+performed Verb.Select w o g a b = gives (selected (g .status) (o .r2))
 
 -- a legal order whose S, if it has one, is at a
 unfoldable pub effectOf : Operation → Order → Registers → List ℕ → ℕ → Answer Effect
-effectOf op o g m a = performed (op .verb) (op .width) o g a (secondOperand (op .place) (op .width) o (g .float) (g .general) m a)
+effectOf op o g m a = performed (op .verb) (op .width) o g a (secondOperand (op .place) (op .width) o (g .float) (g .general) (g .status .selector) m a)
 
 -- what checks 4, 5 and 6 leave known where the effect is worked out
 pub record Ready (op : Operation) (o : Order) (g : Registers) (memory a : ℕ) : Type 0 where

@@ -1,11 +1,12 @@
--- The journal's records (document 01, 'Journal and back steps'): four words a record. Word 0 is pointer + 2^16 · CC + 2^18 · mask + 2^19 · kind,
--- word 1 the register or address, words 2 and 3 contents, leftmost first; unused words are 0.
-use Prim.Native.Nat.{ℕ, _+_, _*_, _/_, _^_, _<_, _≤_}
+-- The journal's records (document 01, 'Journal and back steps'; document 02, Job 8): four words a record. Word 0 is pointer + 2^16 · CC + 2^18 · mask +
+-- 2^19 · kind + 2^22 · selector, word 1 the register or address, words 2 and 3 contents, leftmost first; unused words are 0. A general register is of the
+-- set that the record's own selector names.
+use Prim.Native.Nat.{ℕ, _+_, _*_, _/_, _%_, _^_, _<_, _≤_}
 use mathlib.Core.Path.{_≡_}
 use mathlib.Core.List.{List}
 use mathlib.Core.Bool.{true, cond}
 use lib.ListN.{getD, set}
-use lib.Dec.{eqb, leb}
+use lib.Dec.{eqb, leb, ltb}
 use Rattle.hexfloat.specs.Answer.{Answer, gives, stops, mapped, provided}
 use Rattle.machine.specs.declared.change.Change.{Change}
 use Rattle.machine.specs.declared.journal.Record.{Record}
@@ -46,7 +47,7 @@ saysChange Decoded.Broken = stops 15
 abbrev pub inRegister : ℕ → ℕ → Change → Answer Change
 inRegister r unused ch = provided (leb r 7) 15 (provided (eqb unused 0) 15 (gives ch))
 
--- the form of a record by its kind; a kind above 5 breaks it, and so does a higher bit in word 0, since it makes such a kind
+-- the form of a record by its kind; a kind above 5 breaks it
 unfoldable pub changeFrom : ℕ → ℕ → ℕ → ℕ → Answer Change
 changeFrom kind place left right =
     cond (eqb kind 0) (provided (eqb place 0) 15 (provided (eqb left 0) 15 (provided (eqb right 0) 15 (gives Change.Nothing))))
@@ -60,15 +61,17 @@ changeFrom kind place left right =
 abbrev pub effectFrom : Status → Change → Effect
 effectFrom s ch = record { change = ch; status = s }
 
--- condition code 2 breaks the form too
+-- condition code 2 breaks the form too, and so does a bit above 22 in word 0
 unfoldable pub decoded : Record → Answer Effect
 decoded q =
     provided (conditionFormed (unpacked (q .head) .condition)) 15
-    (mapped (effectFrom (unpacked (q .head))) (changeFrom (q .head / 2 ^ 19) (q .place) (q .left) (q .right)))
+    (provided (ltb (q .head) (2 ^ 23)) 15
+    (mapped (effectFrom (unpacked (q .head))) (changeFrom (q .head / 2 ^ 19 % 8) (q .place) (q .left) (q .right))))
 
--- the effects that have a record: condition code 0, 1 or 3, mask 0 or 1, a 16-bit pointer, registers below 8
+-- the effects that have a record: condition code 0, 1 or 3, mask and selector 0 or 1, a 16-bit pointer, registers below 8
 pub record Recordable (e : Effect) : Type 0 where
   pub condition : conditionFormed (e .status .condition) ≡ true
   pub mask : e .status .mask ≤ 1
+  pub selector : e .status .selector ≤ 1
   pub pointer : e .status .pointer < 65536
   pub registers : registered (e .change) ≡ true

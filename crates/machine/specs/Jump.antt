@@ -11,9 +11,9 @@ use Rattle.machine.specs.Status.{status}
 unfoldable pub jumps : ℕ → ℕ → Bool
 jumps bits condition = eqb (cond (eqb condition 0) (bits / 4) (cond (eqb condition 1) (bits / 2) bits) % 2) 1
 
--- to order `at`, or on by one; condition code and mask stay
+-- to order `at`, or on by one; condition code, mask and selector stay
 abbrev pub jumpedTo : Status → Bool → ℕ → Status
-jumpedTo s jump at = status (s .condition) (s .mask) (cond jump at (s .pointer + 1))
+jumpedTo s jump at = status (s .condition) (s .mask) (cond jump at (s .pointer + 1)) (s .selector)
 
 unfoldable pub jumped : Status → ℕ → ℕ → Effect
 jumped s bits at = record { change = Change.Nothing; status = jumpedTo s (jumps bits (s .condition)) at }

@@ -51,3 +51,4 @@ pub record Committable (e : Effect) (s : Status) (used memory journal : ℕ) : T
   pub room : used * 4 + 4 ≤ journal
   pub count : used < 4096
   pub status : Packable s
+  pub selector : e .status .selector ≤ 1

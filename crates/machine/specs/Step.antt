@@ -9,9 +9,9 @@ use Rattle.orders.specs.declared.order.Order.{Order}
 use Rattle.orders.specs.Order.{orderAt}
 use Rattle.protection.specs.Form.{ProtectList}
 use Rattle.machine.specs.declared.verdict.Effect.{Effect}
-use Rattle.orders.specs.Address.{addressOf}
 use Rattle.machine.specs.Decide.{decided}
 use Rattle.machine.specs.Machine.{Machine, committed}
+use Rattle.machine.specs.Operand.{addressIn}
 
 -- what stands after a call, the steps that it took, and 0 or the number of its stop
 pub record Outcome (W : Type 0) : Type 0 where
@@ -40,7 +40,7 @@ abbrev pub nextOrder : List ℕ → Machine → Order
 nextOrder d x = orderAt d (x .state .registers .status .pointer)
 
 abbrev pub nextAddress : List ℕ → Machine → ℕ
-nextAddress d x = addressOf (nextOrder d x) (x .state .registers .general)
+nextAddress d x = addressIn (nextOrder d x) (x .state .registers)
 
 abbrev pub verdictOf : List ℕ → ProtectList → Machine → Answer Effect
 verdictOf d p x = decided d p (x .state .registers) (x .state .used) (x .memory) (length (x .journal))

@@ -28,7 +28,7 @@ pub struct Advanced {
 // store.
 pub fn advance(
     float: &mut [u32; 8],
-    general: &mut [u32; 8],
+    general: &mut [u32; 16],
     start: Status,
     first: u32,
     deck: &[u16],
@@ -59,8 +59,8 @@ pub fn advance(
                 let change = e.change;
                 keep(float, general, status, used, e, memory, journal);
                 store(change, memory);
-                put(change, float, general);
                 status = e.status;
+                put(change, float, general, status.selector);
                 used += 1;
             }
         }

@@ -1,15 +1,17 @@
 // What a step or a back step overwrites.
 use crate::operand::word_at;
 use crate::state::Registers;
+use crate::state::Status;
 use crate::verdict::Effect;
 use hexfloat::Width;
 use hexfloat::Words;
+use orders::general_at;
+use orders::general_cell;
 ghost use mathlib.Core.Path.{_≡_};
 ghost use mathlib.Core.Bool.{true};
 ghost use Prim.Native.Nat.{_+_, _≤_};
 ghost use lib.ListN.{length};
 ghost use Rattle.protection.specs.Bits.{bitwise};
-ghost use Rattle.machine.specs.declared.state.Status.{Status};
 ghost use Rattle.machine.specs.Machine.{registers};
 ghost use Rattle.machine.specs.Change.{
   placed,
@@ -85,9 +87,15 @@ pub fn is_guarded(protect: &[u8], ch: Change) -> bool
 }
 
 // The same places with their present contents.
-pub fn old(float: &[u32; 8], general: &[u32; 8], memory: &[u16], ch: Change) -> Change
+pub fn old(
+    float: &[u32; 8],
+    general: &[u32; 16],
+    status: Status,
+    memory: &[u16],
+    ch: Change,
+) -> Change
     requires { ⌜ (registered ch ≡ true) × (placed ch (length (now memory)) ≡ true) ⌝ }
-    ensures { λ r. ⌜ ((s : Status) → r ≡ oldOf (registers (now (float .entry)) (now (general .entry)) s) (now (memory .entry)) ch) ⌝ }
+    ensures { λ r. ⌜ r ≡ oldOf (registers (now (float .entry)) (now (general .entry)) status) (now (memory .entry)) ch ⌝ }
 {
     match ch {
         Change::Nothing => Change::Nothing,
@@ -95,7 +103,7 @@ pub fn old(float: &[u32; 8], general: &[u32; 8], memory: &[u16], ch: Change) -> 
         Change::Pair(r, hi, lo) => {
             Change::Pair(r, float[r as usize], float[(r as usize + 1) % 8])
         }
-        Change::General(r, w) => Change::General(r, general[r as usize]),
+        Change::General(r, w) => Change::General(r, general_at(general, status.selector, r)),
         Change::Two(at, w) => Change::Two(at, word_at(memory, at as usize)),
         Change::Four(at, hi, lo) => {
             let a = crate::operand::long_at(memory, at as usize);
@@ -104,10 +112,10 @@ pub fn old(float: &[u32; 8], general: &[u32; 8], memory: &[u16], ch: Change) -> 
     }
 }
 
-// A change of registers, in place.
-pub fn put(ch: Change, float: &mut [u32; 8], general: &mut [u32; 8])
-    requires { ⌜ registered ch ≡ true ⌝ }
-    ensures { λ _. ⌜ (now (float .exit) ≡ floatAfter ch (now (float .entry))) × (now (general .exit) ≡ generalAfter ch (now (general .entry))) ⌝ }
+// A change of registers, in place; a general register is of the set that the selector names.
+pub fn put(ch: Change, float: &mut [u32; 8], general: &mut [u32; 16], selector: u32)
+    requires { ⌜ (registered ch ≡ true) × (selector ≤ 1) ⌝ }
+    ensures { λ _. ⌜ (now (float .exit) ≡ floatAfter ch (now (float .entry))) × (now (general .exit) ≡ generalAfter ch (now (general .entry)) selector) ⌝ }
 {
     match ch {
         Change::Nothing => {}
@@ -119,7 +127,7 @@ pub fn put(ch: Change, float: &mut [u32; 8], general: &mut [u32; 8])
             float[(r as usize + 1) % 8] = lo;
         }
         Change::General(r, w) => {
-            general[r as usize] = w;
+            general[general_cell(selector, r)] = w;
         }
         Change::Two(at, w) => {}
         Change::Four(at, hi, lo) => {}
@@ -127,14 +135,14 @@ pub fn put(ch: Change, float: &mut [u32; 8], general: &mut [u32; 8])
 }
 
 pub fn registers_after(e: Effect, g: Registers) -> Registers
-    requires { ⌜ registered (e .change) ≡ true ⌝ }
+    requires { ⌜ (registered (e .change) ≡ true) × (e .status .selector ≤ 1) ⌝ }
     ensures { λ r. ⌜ r ≡ registersAfter e g ⌝ }
 {
     let ch = e.change;
     let status = e.status;
     let mut float = g.float;
     let mut general = g.general;
-    put(ch, &mut float, &mut general);
+    put(ch, &mut float, &mut general, status.selector);
     Registers {
         float,
         general,

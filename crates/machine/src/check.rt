@@ -55,7 +55,10 @@ fn status_formed(s: Status) -> bool
     if !condition_formed(s.condition) {
         return false;
     }
-    s.mask <= 1
+    if 1 < s.mask {
+        return false;
+    }
+    s.selector <= 1
 }
 
 // Check 3.

@@ -61,7 +61,7 @@ fn judge(
     op: Operation,
     o: Order,
     float: &[u32; 8],
-    general: &[u32; 8],
+    general: &[u32; 16],
     status: Status,
     used: u32,
     memory: &[u16],
@@ -70,7 +70,7 @@ fn judge(
 ) -> Verdict
     requires { ⌜ Judgeable op o (registers (now float) (now general) status) ⌝ }
     ensures { λ v. ⌜ says v
-        ≡ judged o (registers (now (float .entry)) (now (general .entry)) status) used (bitwise (now (protect .entry))) (now (memory .entry)) (addressOf o (now (general .entry))) journal op ⌝ }
+        ≡ judged o (registers (now (float .entry)) (now (general .entry)) status) used (bitwise (now (protect .entry))) (now (memory .entry)) (addressOf o (now (general .entry)) (status .selector)) journal op ⌝ }
 {
     let verb = op.verb;
     let full = used as usize >= journal / 4;
@@ -80,7 +80,7 @@ fn judge(
     if full {
         return Verdict::Refused(Stop::JournalFull);
     }
-    let at = address(o, general);
+    let at = address(o, general, status.selector);
     if !is_present(span(op), at, memory.len()) {
         return Verdict::Refused(Stop::AbsentStorage);
     }
@@ -93,7 +93,7 @@ fn judge(
 // Every check, or the step's effect.
 pub fn decide(
     float: &[u32; 8],
-    general: &[u32; 8],
+    general: &[u32; 16],
     status: Status,
     used: u32,
     deck: &[u16],

@@ -6,7 +6,6 @@ use crate::change::storage_change;
 use crate::jump::count_down;
 use crate::jump::jump;
 use crate::operand::float_operand;
-use crate::operand::general_at;
 use crate::operand::second_operand;
 use crate::state::Status;
 use crate::stop::Stop;
@@ -20,6 +19,7 @@ use hexfloat::Words;
 use orders::Operation;
 use orders::Order;
 use orders::Verb;
+use orders::general_at;
 ghost use mathlib.Core.Path.{_≡_};
 ghost use Prim.Native.Nat.{_+_, _<_, _≤_};
 ghost use lib.ListN.{length};
@@ -40,6 +40,7 @@ ghost use Rattle.machine.specs.Effect.{
   multiplied,
   loadedGeneral,
   masked,
+  selected,
   performed,
   effectOf,
   Ready,
@@ -56,6 +57,7 @@ fn granted(s: Status, change: Change, condition: u8) -> Verdict
         condition,
         mask: s.mask,
         pointer: s.pointer + 1,
+        selector: s.selector,
     };
     Verdict::Granted(Effect { change, status })
 }
@@ -176,11 +178,26 @@ fn set_mask(s: Status, mask: u16) -> Verdict
         condition: s.condition,
         mask: mask as u8,
         pointer: s.pointer + 1,
+        selector: s.selector,
     };
     Verdict::Granted(Effect {
         change: Change::Nothing,
         status,
     })
+}
+
+// SET.
+fn select(s: Status, selector: u32) -> Verdict
+    requires { ⌜ s .pointer + 1 < 65536 ⌝ }
+    ensures { λ v. ⌜ says v ≡ gives (selected s selector) ⌝ }
+{
+    let chosen = Status {
+        condition: s.condition,
+        mask: s.mask,
+        pointer: s.pointer,
+        selector,
+    };
+    granted(chosen, Change::Nothing, s.condition)
 }
 
 // An order whose second operand is b; S, if it has one, is at `at`.
@@ -189,7 +206,7 @@ fn perform(
     width: Width,
     o: Order,
     float: &[u32; 8],
-    general: &[u32; 8],
+    general: &[u32; 16],
     status: Status,
     at: u32,
     b: Words,
@@ -199,6 +216,7 @@ fn perform(
 {
     let r = o.r1 as u32;
     let condition = status.condition;
+    let selector = status.selector;
     match verb {
         Verb::Load => load(width, status, r, b),
         Verb::Complement => load(width, status, r, complement(b)),
@@ -215,17 +233,19 @@ fn perform(
         }
         Verb::LoadGeneral => load_general(status, r, b.high),
         Verb::StoreGeneral => {
-            granted(status, Change::Two(at, general_at(general, r)), condition)
+            let w = general_at(general, selector, r);
+            granted(status, Change::Two(at, w), condition)
         }
         Verb::SetMask => set_mask(status, o.r2),
         Verb::Jump => jump(status, r, o.at),
-        Verb::CountDown => count_down(status, r, general_at(general, r), o.at),
+        Verb::CountDown => count_down(status, r, general_at(general, selector, r), o.at),
         Verb::Halt => Verdict::Refused(Stop::Halted),
         Verb::Sum(sense) => {
             let a = float_operand(width, float, r);
             sum(sense, width, status, r, a, b)
         }
         Verb::Multiply => multiply(width, status, r, float_operand(width, float, r), b),
+        Verb::Select => select(status, o.r2 as u32),
     }
 }
 
@@ -235,7 +255,7 @@ pub fn effect(
     op: Operation,
     o: Order,
     float: &[u32; 8],
-    general: &[u32; 8],
+    general: &[u32; 16],
     status: Status,
     memory: &[u16],
     at: u32,
@@ -246,6 +266,6 @@ pub fn effect(
     let verb = op.verb;
     let width = op.width;
     let place = op.place;
-    let b = second_operand(place, width, o, float, general, memory, at);
+    let b = second_operand(place, width, o, float, general, status.selector, memory, at);
     perform(verb, width, o, float, general, status, at, b)
 }

@@ -27,21 +27,27 @@ pub enum Fetched {
 }
 
 // Checks 5 and 6 of the order, then its operands.
-pub fn fetch(o: Order, float: &[u32; 8], general: &[u32; 8], memory: &[u16]) -> Fetched
-    ensures { λ r. ⌜ saysFetched r ≡ operandsRead o (now (float .entry)) (now (general .entry)) (now (memory .entry)) (addressOf o (now (general .entry))) ⌝ }
+pub fn fetch(
+    o: Order,
+    float: &[u32; 8],
+    general: &[u32; 16],
+    selector: u32,
+    memory: &[u16],
+) -> Fetched
+    ensures { λ r. ⌜ saysFetched r ≡ operandsRead o (now (float .entry)) (now (general .entry)) selector (now (memory .entry)) (addressOf o (now (general .entry)) selector) ⌝ }
 {
     let checked = legal(o);
     let Legality::Legal(op) = checked else {
         return Fetched::Illegal;
     };
-    let at = address(o, general);
+    let at = address(o, general, selector);
     if !is_present(span(op), at, memory.len()) {
         return Fetched::Absent;
     }
     let place = op.place;
     let width = op.width;
     let first = float_operand(width, float, o.r1 as u32);
-    let second = second_operand(place, width, o, float, general, memory, at);
+    let second = second_operand(place, width, o, float, general, selector, memory, at);
     Fetched::Read(Operands {
         operation: op,
         first,

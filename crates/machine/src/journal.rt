@@ -70,9 +70,12 @@ fn words(head: u32, place: u32, left: u32, right: u32) -> Record
 // Word 0 but for the kind.
 fn pack(s: Status) -> u32
     requires { ⌜ Packable s ⌝ }
-    ensures { λ r. ⌜ (r ≡ packed s) × (r < 524288) ⌝ }
+    ensures { λ r. ⌜ (r ≡ packed s) × (r < 8388608) ⌝ }
 {
-    s.pointer as u32 + 65536 * (s.condition as u32) + 262144 * (s.mask as u32)
+    s.pointer as u32
+        + 65536 * (s.condition as u32)
+        + 262144 * (s.mask as u32)
+        + 4194304 * s.selector
 }
 
 fn unpack(head: u32) -> Status
@@ -82,12 +85,13 @@ fn unpack(head: u32) -> Status
         condition: (head / 65536 % 4) as u8,
         mask: (head / 262144 % 2) as u8,
         pointer: (head % 65536) as u16,
+        selector: head / 4194304 % 2,
     }
 }
 
 // The record of a change, `base` being word 0 but for its kind.
 fn encode_change(base: u32, ch: Change) -> Record
-    requires { ⌜ base < 524288 ⌝ }
+    requires { ⌜ base < 8388608 ⌝ }
     ensures { λ r. ⌜ r ≡ encodedAs base ch ⌝ }
 {
     match ch {
@@ -112,7 +116,7 @@ fn encode(e: Effect) -> Record
 // The record of what an effect overwrites, at the used count.
 pub fn keep(
     float: &[u32; 8],
-    general: &[u32; 8],
+    general: &[u32; 16],
     status: Status,
     used: u32,
     e: Effect,
@@ -125,7 +129,7 @@ pub fn keep(
 {
     let change = e.change;
     let before = Effect {
-        change: old(float, general, memory, change),
+        change: old(float, general, status, memory, change),
         status,
     };
     write_record(journal, used, encode(before));
@@ -197,7 +201,10 @@ pub fn decode(q: Record) -> Verdict
     if !condition_formed(status.condition) {
         return Verdict::Refused(Stop::RecordForm);
     }
-    let d = decode_change(q.head / 524288, q.place, q.left, q.right);
+    if 8388608 <= q.head {
+        return Verdict::Refused(Stop::RecordForm);
+    }
+    let d = decode_change(q.head / 524288 % 8, q.place, q.left, q.right);
     match d {
         Decoded::Broken => Verdict::Refused(Stop::RecordForm),
         Decoded::Formed(change) => Verdict::Granted(Effect { change, status }),

@@ -32,6 +32,7 @@ fn moved(s: Status, jump: bool, at: u16) -> Status
         condition: s.condition,
         mask: s.mask,
         pointer,
+        selector: s.selector,
     }
 }
 

@@ -3,12 +3,13 @@ use hexfloat::Width;
 use hexfloat::Words;
 use orders::Order;
 use orders::Place;
+use orders::general_at;
 ghost use mathlib.Core.Path.{_≡_};
 ghost use mathlib.Core.Bool.{true};
 ghost use Prim.Native.Nat.{_+_, _≤_};
 ghost use lib.ListN.{length};
 ghost use Rattle.hexfloat.specs.Word.{shortWords};
-ghost use Rattle.machine.specs.Operand.{floatAt, floatPair, generalAt, wordAt, longAt, floatOperand, storageOperand, secondOperand};
+ghost use Rattle.machine.specs.Operand.{floatAt, floatPair, wordAt, longAt, floatOperand, storageOperand, secondOperand};
 ghost use Rattle.orders.specs.Order.{halfwords, spanAs};
 ghost use Rattle.machine.specs.Check.{present};
 
@@ -28,13 +29,6 @@ pub fn float_pair(float: &[u32; 8], r: u32) -> Words
         high: float_at(float, r),
         low: float_at(float, (r + 1) % 8),
     }
-}
-
-pub fn general_at(general: &[u32; 8], r: u32) -> u32
-    requires { ⌜ r ≤ 7 ⌝ }
-    ensures { λ w. ⌜ w ≡ generalAt (now (general .entry)) r ⌝ }
-{
-    general[r as usize]
 }
 
 fn wide(x: u16) -> u32
@@ -94,18 +88,19 @@ pub fn second_operand(
     width: Width,
     o: Order,
     float: &[u32; 8],
-    general: &[u32; 8],
+    general: &[u32; 16],
+    selector: u32,
     memory: &[u16],
     at: u32,
 ) -> Words
     requires { ⌜ (o .r2 ≤ 7) × (present (spanAs place width) at (length (now memory)) ≡ true) ⌝ }
-    ensures { λ w. ⌜ w ≡ secondOperand place width o (now (float .entry)) (now (general .entry)) (now (memory .entry)) at ⌝ }
+    ensures { λ w. ⌜ w ≡ secondOperand place width o (now (float .entry)) (now (general .entry)) selector (now (memory .entry)) at ⌝ }
 {
     let r = o.r2 as u32;
     match place {
         Place::Nowhere => short(0),
         Place::FloatRegister => float_operand(width, float, r),
-        Place::GeneralRegister => short(general_at(general, r)),
+        Place::GeneralRegister => short(general_at(general, selector, r)),
         Place::Storage => storage_operand(width, memory, at as usize),
     }
 }

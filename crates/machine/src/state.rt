@@ -3,19 +3,21 @@ ghost use mathlib.Core.Path.{_≡_};
 ghost use Rattle.machine.specs.Fresh.{freshState};
 ghost use Rattle.machine.specs.Machine.{registers, state};
 
-// What word 0 of a record saves: condition code, underflow mask, and the order that comes next.
+// What word 0 of a record saves: condition code, underflow mask, the order that comes next, and which
+// set of general registers is in use. The selector has the width that leaves no padding.
 #[repr(C)]
 pub struct Status {
     pub condition: u8,
     pub mask: u8,
     pub pointer: u16,
+    pub selector: u32,
 }
 
-// The registers that orders see.
+// The registers that orders see; of the general ones both sets, register r of set s at 8 s + r.
 #[repr(C)]
 pub struct Registers {
     pub float: [u32; 8],
-    pub general: [u32; 8],
+    pub general: [u32; 16],
     pub status: Status,
 }
 
@@ -27,7 +29,7 @@ pub struct State {
 }
 
 // The state of these parts.
-pub fn assemble(float: [u32; 8], general: [u32; 8], status: Status, used: u32) -> State
+pub fn assemble(float: [u32; 8], general: [u32; 16], status: Status, used: u32) -> State
     ensures { λ r. ⌜ r ≡ state (registers float general status) used ⌝ }
 {
     let registers = Registers {
@@ -46,10 +48,11 @@ pub fn fresh() -> State
         condition: 0,
         mask: 0,
         pointer: 0,
+        selector: 0,
     };
     let registers = Registers {
         float: [0; 8],
-        general: [0; 8],
+        general: [0; 16],
         status,
     };
     State { registers, used: 0 }

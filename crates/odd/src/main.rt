@@ -1,19 +1,20 @@
 // Runs lists of calls on states, buffers and journals of any content and any length.
 //
 // A case has eight lines: `DDDDD MMMMM PPPPP JJJJJ KK`, the lengths of deck, memory, protect list and
-// journal and the number of calls, in decimal; `CC MM PPPP UUUUUUUU`, condition code, mask, pointer and
-// used count, from here on in digits 0-9 A-F; the sixteen registers; of deck, memory, protect list and
-// journal the first 32 elements, or all if fewer, a line each, those after them being 0; the calls, one
-// byte each. For each call a line is written with its answer and every register, and after the calls of
-// a case the first 32 halfwords of memory and the first 32 words of the journal, or all if fewer.
+// journal and the number of calls, in decimal; `CC MM PPPP UUUUUUUU SS`, condition code, mask, pointer,
+// used count and selector, from here on in digits 0-9 A-F; the 24 registers, floats, set 0 and set 1; of
+// deck, memory, protect list and journal the first 32 elements, or all if fewer, a line each, those after
+// them being 0; the calls, one byte each. For each call a line is written with its answer and every
+// register, and after the calls of a case the first 32 halfwords of memory and the first 32 words of the
+// journal, or all if fewer.
 mod values;
 
 use machine::Registers;
 use machine::State;
 use machine::Status;
 use trial::Input;
+use trial::Layout;
 use trial::Number;
-use trial::Pointer;
 use values::Values;
 use values::read_list;
 use values::values_of;
@@ -52,7 +53,7 @@ fn run_case(
     let Input::Whole = trial::read_line(calls) else {
         return complain();
     };
-    let listed = trial::list(calls, Pointer::Last, start, deck, memory, protect, journal);
+    let listed = trial::list(calls, Layout::Odd, start, deck, memory, protect, journal);
     listed.written && trial::write(trial::halfwords(memory, 32)) && written_words(journal)
 }
 
@@ -103,36 +104,60 @@ fn lend(
 }
 
 fn read_registers() -> Values {
-    let mut line = [0u8; 143];
+    let mut line = [0u8; 215];
     let Input::Whole = trial::read_line(&mut line) else {
         return Values {
             value: [0; 32],
             formed: false,
         };
     };
-    values_of(16, &line, 16, 8, 9)
+    values_of(16, &line, 24, 8, 9)
 }
 
 fn registers_of(v: [u32; 32], status: Status) -> Registers {
     Registers {
         float: [v[0], v[1], v[2], v[3], v[4], v[5], v[6], v[7]],
-        general: [v[8], v[9], v[10], v[11], v[12], v[13], v[14], v[15]],
+        general: [
+            v[8],
+            v[9],
+            v[10],
+            v[11],
+            v[12],
+            v[13],
+            v[14],
+            v[15],
+            v[16],
+            v[17],
+            v[18],
+            v[19],
+            v[20],
+            v[21],
+            v[22],
+            v[23],
+        ],
         status,
     }
 }
 
-// A state as it is given, whatever it holds.
-struct Start {
-    state: State,
+// The line before the registers.
+struct Heading {
+    status: Status,
+    used: u32,
     formed: bool,
 }
 
-fn read_start() -> Start {
-    let refused = Start {
-        state: machine::fresh(),
+fn read_heading() -> Heading {
+    let refused = Heading {
+        status: Status {
+            condition: 0,
+            mask: 0,
+            pointer: 0,
+            selector: 0,
+        },
+        used: 0,
         formed: false,
     };
-    let mut line = [0u8; 19];
+    let mut line = [0u8; 22];
     let Input::Whole = trial::read_line(&mut line) else {
         return refused;
     };
@@ -148,19 +173,38 @@ fn read_start() -> Start {
     let Number::Value(used) = trial::number_at(16, &line, 11, 8) else {
         return refused;
     };
-    let status = Status {
-        condition: (condition % 256) as u8,
-        mask: (mask % 256) as u8,
-        pointer: (pointer % 65536) as u16,
+    let Number::Value(selector) = trial::number_at(16, &line, 20, 2) else {
+        return refused;
     };
+    Heading {
+        status: Status {
+            condition: (condition % 256) as u8,
+            mask: (mask % 256) as u8,
+            pointer: (pointer % 65536) as u16,
+            selector,
+        },
+        used,
+        formed: true,
+    }
+}
+
+// A state as it is given, whatever it holds.
+struct Start {
+    state: State,
+    formed: bool,
+}
+
+fn read_start() -> Start {
+    let heading = read_heading();
+    let status = heading.status;
     let words = read_registers();
     let value = words.value;
     Start {
         state: State {
             registers: registers_of(value, status),
-            used,
+            used: heading.used,
         },
-        formed: words.formed,
+        formed: heading.formed && words.formed,
     }
 }
 

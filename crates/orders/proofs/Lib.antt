@@ -1,4 +1,5 @@
 pub mod Addresses
+pub mod Generals
 pub mod Passing
 pub mod Table
 pub mod Unindexed

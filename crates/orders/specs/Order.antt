@@ -44,7 +44,7 @@ abbrev pub onCells : Verb → ℕ → ℕ → ℕ → Operation
 onCells v a b c = row v Width.Short Place.Nowhere a b c
 
 -- The table from code 1 on: LER, LE, LED, LECR; CER, CE, CEDR, CED; CVFX, CVFL; DER, DE, DEDR, DED; STE, STED, L, ST; UM, JC, JN, HALT;
--- AER, AE, SER, SE; AEDR, AED, SEDR, SED; MER, ME, MEDR, MED.
+-- AER, AE, SER, SE; AEDR, AED, SEDR, SED; MER, ME, MEDR, MED; SET.
 abbrev pub rows : List Operation
 rows =
     onFloat Verb.Load Width.Short
@@ -81,6 +81,7 @@ rows =
     ∷ onStorage Verb.Multiply Width.Short
     ∷ onFloat Verb.Multiply Width.Long
     ∷ onStorage Verb.Multiply Width.Long
+    ∷ onCells Verb.Select 0 1 0
     ∷ []
 
 -- the row of code n among some rows, the first of which has the code k; an unknown code is a 5
@@ -136,6 +137,7 @@ storedAs Verb.CountDown w = 0
 storedAs Verb.Halt w = 0
 storedAs (Verb.Sum s) w = 0
 storedAs Verb.Multiply w = 0
+storedAs Verb.Select w = 0
 
 abbrev pub storedOf : Operation → ℕ
 storedOf op = storedAs (op .verb) (op .width)
@@ -156,3 +158,4 @@ isHalt Verb.CountDown = false
 isHalt Verb.Halt = true
 isHalt (Verb.Sum s) = false
 isHalt Verb.Multiply = false
+isHalt Verb.Select = false

@@ -1,12 +1,16 @@
-// The orders of the desk: document 01's table, check 5, and the address of the storage operand.
+// The orders of the desk: document 01's table, check 5, general registers, and the address of the storage
+// operand.
 //
 // What is public takes an order of any content and has no `requires`.
 mod addressing;
 mod deck;
+mod general;
 mod order;
 
 pub use addressing::address;
 pub use deck::order_at;
+pub use general::general_at;
+pub use general::general_cell;
 pub use order::Legality;
 pub use order::Operation;
 pub use order::Order;

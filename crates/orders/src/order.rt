@@ -30,6 +30,7 @@ pub enum Verb {
     Halt,
     Sum(Sense),
     Multiply,
+    Select,
 }
 
 // Where its second operand is.
@@ -131,6 +132,7 @@ pub fn look_up(code: u16) -> Legality
         32 => on_storage(Verb::Multiply, Width::Short), // ME
         33 => on_float(Verb::Multiply, Width::Long), // MEDR
         34 => on_storage(Verb::Multiply, Width::Long), // MED
+        35 => on_cells(Verb::Select, 0, 1, 0), // SET
         _ => Legality::Illegal,
     }
 }
@@ -202,6 +204,7 @@ pub fn stored(op: Operation) -> u32
         Verb::Halt => 0,
         Verb::Sum(_) => 0,
         Verb::Multiply => 0,
+        Verb::Select => 0,
     }
 }
 
@@ -224,5 +227,6 @@ pub fn halts(verb: Verb) -> bool
         Verb::Halt => true,
         Verb::Sum(_) => false,
         Verb::Multiply => false,
+        Verb::Select => false,
     }
 }

@@ -4,11 +4,12 @@ use crate::line::empty;
 use crate::line::ended;
 use crate::line::with_byte;
 use crate::line::with_decimal;
-use crate::line::with_registers;
+use crate::line::with_float;
+use crate::line::with_set_0;
+use crate::line::with_set_1;
 use crate::line::write;
 use machine::Ran;
 use machine::State;
-use machine::Status;
 ghost use mathlib.Core.Path.{_≡_};
 ghost use Prim.Native.Nat.{_≤_};
 ghost use lib.ListN.{length};
@@ -62,35 +63,51 @@ pub fn call(
     machine::run(s, deck, memory, protect, journal, limit_of(byte))
 }
 
-// Where a call's line has the pointer: before condition code and mask, or after them.
-pub enum Pointer {
-    First,
-    Last,
+// In which order a call's line has what stands after the call, named by the program whose vectors have it.
+pub enum Layout {
+    Calls,
+    Odd,
 }
 
-fn with_status(t: Line, s: Status, place: Pointer) -> Line {
-    let pointer = s.pointer as u32;
-    let condition = s.condition as u32;
-    let mask = s.mask as u32;
-    match place {
-        Pointer::First => with_decimal(with_decimal(with_decimal(t, pointer), condition), mask),
-        Pointer::Last => with_decimal(with_decimal(with_decimal(t, condition), mask), pointer),
-    }
-}
-
-// The call, what it answered, and what stands after it.
-fn line_of(byte: u8, r: Ran, place: Pointer) -> Line {
-    let s = r.state;
+// The pointer before condition code and mask, and the selector between the two sets.
+fn with_calls_state(t: Line, s: State) -> Line {
     let g = s.registers;
     let status = g.status;
     let float = g.float;
     let general = g.general;
+    let t = with_decimal(t, status.pointer as u32);
+    let t = with_decimal(t, status.condition as u32);
+    let t = with_decimal(t, status.mask as u32);
+    let t = with_decimal(t, s.used);
+    let t = with_set_0(with_float(t, float), general);
+    with_set_1(with_decimal(t, status.selector), general)
+}
+
+// The numbers as the case's second line has them, then the registers.
+fn with_odd_state(t: Line, s: State) -> Line {
+    let g = s.registers;
+    let status = g.status;
+    let float = g.float;
+    let general = g.general;
+    let t = with_decimal(t, status.condition as u32);
+    let t = with_decimal(t, status.mask as u32);
+    let t = with_decimal(t, status.pointer as u32);
+    let t = with_decimal(t, s.used);
+    let t = with_decimal(t, status.selector);
+    with_set_1(with_set_0(with_float(t, float), general), general)
+}
+
+// The call, what it answered, and what stands after it.
+fn line_of(byte: u8, r: Ran, layout: Layout) -> Line {
+    let s = r.state;
     let stop = r.stop;
     let t = with_byte(with_byte(empty(), byte), b' ');
     let t = with_decimal(t, r.count);
     let t = with_decimal(t, machine::number(stop) as u32);
-    let t = with_decimal(with_status(t, status, place), s.used);
-    ended(with_registers(with_registers(t, float), general))
+    match layout {
+        Layout::Calls => ended(with_calls_state(t, s)),
+        Layout::Odd => ended(with_odd_state(t, s)),
+    }
 }
 
 // What stands after the calls that were made, and whether each has its line.
@@ -103,7 +120,7 @@ pub struct Listed {
 // Makes one call after the other and writes a line for each; ends early where a line is not written.
 pub fn list(
     calls: &[u8],
-    place: Pointer,
+    layout: Layout,
     start: State,
     deck: &[u16],
     memory: &mut [u16],
@@ -120,7 +137,7 @@ pub fn list(
     while written && made < calls.len() {
         let byte = calls[made];
         let r = call(byte, state, deck, memory, protect, journal);
-        written = write(line_of(byte, r, place));
+        written = write(line_of(byte, r, layout));
         let after = r.state;
         state = after;
         made += 1;

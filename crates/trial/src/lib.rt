@@ -7,8 +7,8 @@ mod calling;
 mod input;
 mod line;
 
+pub use calling::Layout;
 pub use calling::Listed;
-pub use calling::Pointer;
 pub use calling::call;
 pub use calling::list;
 pub use input::Input;
@@ -24,5 +24,7 @@ pub use line::with_byte;
 pub use line::with_bytes;
 pub use line::with_decimal;
 pub use line::with_digits;
-pub use line::with_registers;
+pub use line::with_float;
+pub use line::with_set_0;
+pub use line::with_set_1;
 pub use line::write;

@@ -55,15 +55,29 @@ pub fn with_digits(t: Line, k: u32, w: u32) -> Line {
     next
 }
 
-// Eight words, a blank after each.
-pub fn with_registers(t: Line, r: [u32; 8]) -> Line {
+// The words in eight digits, a blank after each.
+fn with_words(t: Line, words: &[u32]) -> Line {
     let mut next = t;
     let mut i = 0;
-    while i < 8 {
-        next = with_byte(with_digits(next, 8, r[i]), b' ');
+    while i < words.len() {
+        next = with_byte(with_digits(next, 8, words[i]), b' ');
         i += 1;
     }
     next
+}
+
+pub fn with_float(t: Line, float: [u32; 8]) -> Line {
+    with_words(t, &float)
+}
+
+// The general registers of set 0.
+pub fn with_set_0(t: Line, general: [u32; 16]) -> Line {
+    with_words(t, &general[0..8])
+}
+
+// The general registers of set 1.
+pub fn with_set_1(t: Line, general: [u32; 16]) -> Line {
+    with_words(t, &general[8..])
 }
 
 fn wide(h: u16) -> u32 {

@@ -65,6 +65,7 @@ with-registers-requires c κs = room c
 returns : tie.Need-returns
 unfolding listed
 returns c =
+    let g = c .before .before .before .before .before .before .before .before .before .before .before .before .before .before .before .before .before .before .args .r .state .registers in
     whole (c .before .before .before .before .before .before .before .before .before .before .before .before .before .before .before .empty .ensures .0)
     (then (c .before .before .before .before .before .before .before .before .before .before .before .before .before .with-bytes .ensures)
     (then (c .before .before .before .before .before .before .before .before .before .before .before .with-field .ensures .0)
@@ -73,7 +74,7 @@ returns c =
     (then (c .before .before .before .before .before .with-field4 .ensures .0)
     (then (c .before .before .before .with-field5 .ensures .0)
     (then (c .before .with-bytes2 .ensures) (c .with-registers .ensures))))))))
-    (omega (arith, c .with-registers .ensures .size, lines-length 8 (c .before .before .before .before .before .before .before .before .before .before .before .before .before .before .before .before .before .before .args .r .state .registers .float) (c .before .before .before .before .before .before .before .before .before .before .before .before .before .before .before .before .before .before .args .r .state .registers .general), room (c .before)))
+    (omega (arith, c .with-registers .ensures .size, lines-length 8 (g .float) (g .general) (g .status .selector), room (c .before)))
     (search needs)
 
 pub list-run-spec : {M : Type 1} → statement M

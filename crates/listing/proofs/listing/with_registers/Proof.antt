@@ -6,18 +6,25 @@ use native.Mathlib.Omega.{arith}
 use Rattle.listing.specs.Listing.{registerLines}
 use Rattle.listing.specs.Text.{Appended}
 use Rattle.listing.proofs.Appends.{nothing, then}
+use borrow.Author.Needs.{needs}
 use Rattle.listing.proofs.listing.with_registers.Statement.{statement}
 use Rattle.listing.proofs.listing.with_registers.Tie as tie
 
 abbrev Inv-loop : tie.InvT-loop
-Inv-loop next₀ float general i₀ next i = (i ≤ 8) × Appended next₀ next (registerLines i float general)
+Inv-loop next₀ float general selector i₀ next i = (i ≤ 8) × Appended next₀ next (registerLines i float general selector)
 
 abbrev μ-loop : tie.MeasureT-loop
-μ-loop next₀ float general i₀ next i = 8 - i
+μ-loop next₀ float general selector i₀ next i = 8 - i
 
 loop-holds : tie.Need-loop-holds Inv-loop μ-loop
 unfolding registerLines
 loop-holds c = (omega arith, nothing)
+
+cast-general-at : tie.Need-cast-general-at Inv-loop μ-loop
+cast-general-at c = omega arith
+
+general-at-requires : tie.Need-general-at-requires Inv-loop μ-loop
+general-at-requires c κs = search needs
 
 cast-with-register : tie.Need-cast-with-register Inv-loop μ-loop
 cast-with-register c = omega arith
@@ -28,16 +35,10 @@ mul-with-register c = omega arith
 array-read-with-register : tie.Need-array-read-with-register Inv-loop μ-loop
 array-read-with-register c = omega arith
 
-mul-with-register-2 : tie.Need-mul-with-register-2 Inv-loop μ-loop
-mul-with-register-2 c = omega arith
-
-array-read-with-register-2 : tie.Need-array-read-with-register-2 Inv-loop μ-loop
-array-read-with-register-2 c = omega arith
-
 with-register-requires : tie.Need-with-register-requires Inv-loop μ-loop
 with-register-requires c κs =
-    let g = c .before .before .before .before .args .g in
-    omega (arith, c .before .loop .inv .1 .size, lines-length (c .before .loop .i) (g .float) (g .general))
+    let g = c .before .before .before .before .before .before .args .g in
+    omega (arith, c .before .before .before .loop .inv .1 .size, lines-length (c .before .before .before .loop .i) (g .float) (g .general) (g .status .selector))
 
 add-i : tie.Need-add-i Inv-loop μ-loop
 add-i c = omega arith
@@ -47,7 +48,7 @@ loop-less c = omega arith
 
 loop-again : tie.Need-loop-again Inv-loop μ-loop
 unfolding registerLines
-loop-again c = (omega arith, rw add-one (then (c .before .before .loop .inv .1) (c .with-register .ensures)))
+loop-again c = (omega arith, rw add-one (then (c .before .before .before .before .loop .inv .1) (rw (c .before .general-at .ensures) at (c .with-register .ensures))))
 
 returns : tie.Need-returns Inv-loop μ-loop
 returns c =
@@ -61,11 +62,11 @@ with-registers-spec =
     Inv-loop
     μ-loop
     loop-holds
+    cast-general-at
+    general-at-requires
     cast-with-register
     mul-with-register
     array-read-with-register
-    mul-with-register-2
-    array-read-with-register-2
     with-register-requires
     add-i
     loop-less

@@ -54,8 +54,9 @@ store-requires c κs =
 
 put-requires : tie.Need-put-requires Inv-loop μ-loop
 put-requires c κs =
-    let step = c .before .before .before .before .before .before .before .before .before .before .before .before .before .before in
-    committable _ _ _ _ _ _ _ (sym (step .before .before .decide .ensures) ∙ ap says (step .v2 .given .1)) .register
+    let step = c .before .before .before .before .before .before .before .before .before .before .before .before .before .before .before in
+    let known = committable _ _ _ _ _ _ _ (sym (step .before .before .decide .ensures) ∙ ap says (step .v2 .given .1)) in
+    (known .register, known .selector)
 
 add-used : tie.Need-add-used Inv-loop μ-loop
 add-used c =
@@ -72,7 +73,7 @@ loop-less c = omega (arith, c .before .before .before .before .before .before .b
 
 loop-again : tie.Need-loop-again Inv-loop μ-loop
 loop-again c =
-    let after = c .before .put .ensures in
+    let after = c .put .ensures in
     let stored = c .before .before .before .before .before .before in
     let kept = stored .before .before .before .before in
     let step = kept .before .before .before .before .before .before in

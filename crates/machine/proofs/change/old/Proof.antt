@@ -3,7 +3,7 @@
 use native.Mathlib.Omega.{arith}
 use borrow.Author.Needs.{needs}
 use Rattle.machine.specs.Change.{oldOf}
-use Rattle.machine.proofs.Placed.{registered-float, registered-pair, registered-general, placed-two, placed-four}
+use Rattle.machine.proofs.Placed.{registered-float, registered-pair, placed-two, placed-four}
 use Rattle.machine.proofs.change.old.Statement.{statement}
 use Rattle.machine.proofs.change.old.Tie as tie
 
@@ -13,50 +13,44 @@ enum-told c = search needs
 enum-known-ch : tie.Need-enum-known-ch
 enum-known-ch c = search needs
 
-cast-t19 : tie.Need-cast-t19
-cast-t19 c = search needs
+cast-t20 : tie.Need-cast-t20
+cast-t20 c = search needs
 
-mul-t20 : tie.Need-mul-t20
-mul-t20 c = search needs
+mul-t21 : tie.Need-mul-t21
+mul-t21 c = search needs
 
-element-copy-out-t23 : tie.Need-element-copy-out-t23
-element-copy-out-t23 c = omega (arith, registered-float (c .before .ch .given .1) (c .before .before .before .before .pre .0))
+element-copy-out-t24 : tie.Need-element-copy-out-t24
+element-copy-out-t24 c = omega (arith, registered-float (c .before .ch .given .1) (c .before .before .before .before .pre .0))
 
 enum-known-ch-2 : tie.Need-enum-known-ch-2
 enum-known-ch-2 c = search needs
 
-cast-t24 : tie.Need-cast-t24
-cast-t24 c = search needs
+cast-t25 : tie.Need-cast-t25
+cast-t25 c = search needs
 
-mul-t25 : tie.Need-mul-t25
-mul-t25 c = search needs
+mul-t26 : tie.Need-mul-t26
+mul-t26 c = search needs
 
-element-copy-out-t28 : tie.Need-element-copy-out-t28
-element-copy-out-t28 c = omega (arith, registered-pair (c .before .ch2 .given .1) (c .before .before .before .before .pre .0))
+element-copy-out-t29 : tie.Need-element-copy-out-t29
+element-copy-out-t29 c = omega (arith, registered-pair (c .before .ch2 .given .1) (c .before .before .before .before .pre .0))
 
-cast-t29 : tie.Need-cast-t29
-cast-t29 c = search needs
+cast-t30 : tie.Need-cast-t30
+cast-t30 c = search needs
 
-add-t30 : tie.Need-add-t30
-add-t30 c = search needs
+add-t31 : tie.Need-add-t31
+add-t31 c = search needs
 
-mul-t32 : tie.Need-mul-t32
-mul-t32 c = search needs
+mul-t33 : tie.Need-mul-t33
+mul-t33 c = search needs
 
-element-copy-out-t35 : tie.Need-element-copy-out-t35
-element-copy-out-t35 c = search needs
+element-copy-out-t36 : tie.Need-element-copy-out-t36
+element-copy-out-t36 c = search needs
 
 enum-known-ch-3 : tie.Need-enum-known-ch-3
 enum-known-ch-3 c = search needs
 
-cast-t36 : tie.Need-cast-t36
-cast-t36 c = search needs
-
-mul-t37 : tie.Need-mul-t37
-mul-t37 c = search needs
-
-element-copy-out-t40 : tie.Need-element-copy-out-t40
-element-copy-out-t40 c = omega (arith, registered-general (c .before .ch3 .given .1) (c .before .before .before .before .pre .0))
+general-at-requires : tie.Need-general-at-requires
+general-at-requires c κs = search needs
 
 enum-known-ch-4 : tie.Need-enum-known-ch-4
 enum-known-ch-4 c = search needs
@@ -78,27 +72,27 @@ long-at-requires c κs = placed-four (c .before .ch5 .given .1) (c .before .befo
 
 returns : tie.Need-returns
 unfolding oldOf
-returns c = λ s. rw (c .enum-told .given .1)
+returns c = rw (c .enum-told .given .1)
 
 returns-2 : tie.Need-returns-2
 unfolding oldOf
-returns-2 c = λ s. rw (c .before .before .ch .given .1)
+returns-2 c = rw (c .before .before .ch .given .1)
 
 returns-3 : tie.Need-returns-3
 unfolding oldOf
-returns-3 c = λ s. rw (c .before .before .before .ch2 .given .1)
+returns-3 c = rw (c .before .before .before .ch2 .given .1)
 
 returns-4 : tie.Need-returns-4
 unfolding oldOf
-returns-4 c = λ s. rw (c .before .before .ch3 .given .1)
+returns-4 c = rw (c .before .before .ch3 .given .1, c .general-at .ensures)
 
 returns-5 : tie.Need-returns-5
 unfolding oldOf
-returns-5 c = λ s. rw (c .before .before .ch4 .given .1, c .word-at .ensures)
+returns-5 c = rw (c .before .before .ch4 .given .1, c .word-at .ensures)
 
 returns-6 : tie.Need-returns-6
 unfolding oldOf
-returns-6 c = λ s. rw (c .before .before .ch5 .given .1, c .long-at .ensures)
+returns-6 c = rw (c .before .before .ch5 .given .1, c .long-at .ensures)
 
 pub old-spec : {M : Type 1} → statement M
 old-spec =
@@ -106,21 +100,19 @@ old-spec =
     (tie.spec
     enum-told
     enum-known-ch
-    cast-t19
-    mul-t20
-    element-copy-out-t23
+    cast-t20
+    mul-t21
+    element-copy-out-t24
     enum-known-ch-2
-    cast-t24
-    mul-t25
-    element-copy-out-t28
-    cast-t29
-    add-t30
-    mul-t32
-    element-copy-out-t35
+    cast-t25
+    mul-t26
+    element-copy-out-t29
+    cast-t30
+    add-t31
+    mul-t33
+    element-copy-out-t36
     enum-known-ch-3
-    cast-t36
-    mul-t37
-    element-copy-out-t40
+    general-at-requires
     enum-known-ch-4
     cast-word-at
     word-at-requires

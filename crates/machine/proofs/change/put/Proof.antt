@@ -20,7 +20,7 @@ mul-float : tie.Need-mul-float
 mul-float c = search needs
 
 element-write-float : tie.Need-element-write-float
-element-write-float c = omega (arith, registered-float (c .before .ch .given .1) (c .before .before .before .pre))
+element-write-float c = omega (arith, registered-float (c .before .ch .given .1) (c .before .before .before .pre .0))
 
 enum-known-ch-2 : tie.Need-enum-known-ch-2
 enum-known-ch-2 c = search needs
@@ -32,7 +32,7 @@ mul-float-2 : tie.Need-mul-float-2
 mul-float-2 c = search needs
 
 element-write-float-2 : tie.Need-element-write-float-2
-element-write-float-2 c = omega (arith, registered-pair (c .before .ch2 .given .1) (c .before .before .before .pre))
+element-write-float-2 c = omega (arith, registered-pair (c .before .ch2 .given .1) (c .before .before .before .pre .0))
 
 cast-float-3 : tie.Need-cast-float-3
 cast-float-3 c = search needs
@@ -49,14 +49,15 @@ element-write-float-3 c = search needs
 enum-known-ch-3 : tie.Need-enum-known-ch-3
 enum-known-ch-3 c = search needs
 
-cast-general : tie.Need-cast-general
-cast-general c = search needs
+general-cell-requires : tie.Need-general-cell-requires
+general-cell-requires c κs = search needs
 
 mul-general : tie.Need-mul-general
 mul-general c = search needs
 
 element-write-general : tie.Need-element-write-general
-element-write-general c = omega (arith, registered-general (c .before .ch3 .given .1) (c .before .before .before .pre))
+element-write-general c =
+    omega (arith, c .general-cell .ensures, registered-general (c .before .before .ch3 .given .1) (c .before .before .before .before .pre .0), c .before .before .before .before .pre .1)
 
 enum-known-ch-4 : tie.Need-enum-known-ch-4
 enum-known-ch-4 c = search needs
@@ -78,7 +79,7 @@ returns-3 c = (rw (c .before .ch2 .given .1), rw (c .before .ch2 .given .1))
 
 returns-4 : tie.Need-returns-4
 unfolding floatAfter generalAfter
-returns-4 c = (rw (c .before .ch3 .given .1), rw (c .before .ch3 .given .1))
+returns-4 c = (rw (c .before .before .ch3 .given .1), rw (c .before .before .ch3 .given .1, ← c .general-cell .ensures))
 
 returns-5 : tie.Need-returns-5
 unfolding floatAfter generalAfter
@@ -106,7 +107,7 @@ put-spec =
     mul-float-3
     element-write-float-3
     enum-known-ch-3
-    cast-general
+    general-cell-requires
     mul-general
     element-write-general
     enum-known-ch-4

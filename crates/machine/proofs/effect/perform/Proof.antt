@@ -125,6 +125,15 @@ float-operand-requires-5 c κs = search needs
 multiply-requires : tie.Need-multiply-requires
 multiply-requires c κs = search needs
 
+enum-told-15 : tie.Need-enum-told-15
+enum-told-15 c = search needs
+
+cast-select : tie.Need-cast-select
+cast-select c = search needs
+
+select-requires : tie.Need-select-requires
+select-requires c κs = search needs
+
 returns : tie.Need-returns
 unfolding performed
 returns c = rw (c .before .enum-told .given .1, c .load .ensures)
@@ -191,6 +200,10 @@ returns-15 : tie.Need-returns-15
 unfolding performed
 returns-15 c = rw (c .before .before .enum-told14 .given .1, c .multiply .ensures, c .before .float-operand5 .ensures)
 
+returns-16 : tie.Need-returns-16
+unfolding performed
+returns-16 c = rw (c .before .before .enum-told15 .given .1, c .select .ensures)
+
 pub perform-spec : {M : Type 1} → statement M
 perform-spec =
     tie.close
@@ -235,6 +248,9 @@ perform-spec =
     enum-told-14
     float-operand-requires-5
     multiply-requires
+    enum-told-15
+    cast-select
+    select-requires
     returns
     returns-2
     returns-3
@@ -249,4 +265,5 @@ perform-spec =
     returns-12
     returns-13
     returns-14
-    returns-15)
+    returns-15
+    returns-16)

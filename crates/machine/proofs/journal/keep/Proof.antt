@@ -21,7 +21,7 @@ returns c =
     rw (
       c .before .before .write-record .ensures,
       c .before .before .before .encode .ensures,
-      c .before .before .before .before .before .old .ensures (c .before .before .before .before .before .before .before .before .args .status),
+      c .before .before .before .before .before .old .ensures,
     )
 
 pub keep-spec : {M : Type 1} → statement M

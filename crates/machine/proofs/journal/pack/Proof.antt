@@ -1,4 +1,4 @@
--- `machine::journal::pack` meets its contract: the three parts, side by side.
+-- `machine::journal::pack` meets its contract: the four parts, side by side.
 -- Assumes nothing.
 use native.Mathlib.Omega.{arith}
 use borrow.Author.Needs.{needs}
@@ -27,6 +27,12 @@ mul-result-2 c = search needs
 add-result-2 : tie.Need-add-result-2
 add-result-2 c = search needs
 
+mul-result-3 : tie.Need-mul-result-3
+mul-result-3 c = search needs
+
+add-result-3 : tie.Need-add-result-3
+add-result-3 c = search needs
+
 returns : tie.Need-returns
 unfolding packed
 returns c = (omega arith, omega arith)
@@ -42,4 +48,6 @@ pack-spec =
     cast-result-3
     mul-result-2
     add-result-2
+    mul-result-3
+    add-result-3
     returns)

@@ -1,4 +1,4 @@
--- `machine::journal::unpack` meets its contract: the three parts.
+-- `machine::journal::unpack` meets its contract: the four parts.
 -- Assumes nothing.
 use mathlib.Core.Path.{refl}
 use borrow.Author.Needs.{needs}

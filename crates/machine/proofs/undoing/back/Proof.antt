@@ -25,7 +25,7 @@ store-requires c κs =
 registers-after-requires : tie.Need-registers-after-requires
 registers-after-requires c κs =
     let gives = sym (c .before .before .before .before .before .before .before .recall .ensures) ∙ ap says (c .before .before .before .before .before .v2 .given .1) in
-    returning-gives _ _ _ _ _ gives .registers
+    (returning-gives _ _ _ _ _ gives .registers, returning-gives _ _ _ _ _ gives .selector)
 
 sub-t17 : tie.Need-sub-t17
 sub-t17 c =

@@ -16,7 +16,7 @@ index-requires c κs = search needs
 add-result : tie.Need-add-result
 add-result c =
     let a = c .before .before .args in
-    omega (arith, c .index .ensures, index-below (a .o .r2) (a .general .now))
+    omega (arith, c .index .ensures, index-below (a .o .r2) (a .general .now) (a .selector))
 
 returns : tie.Need-returns
 unfolding addressOf

@@ -13,10 +13,10 @@ use Rattle.trial.proofs.calling.list.Statement.{statement}
 use Rattle.trial.proofs.calling.list.Tie as tie
 
 abbrev Inv-loop : tie.InvT-loop
-Inv-loop calls place deck memory₀ protect journal₀ state₀ made₀ written₀ memory journal state made written = (made ≤ length calls) × (machine state memory journal ≡ afterCalls calls deck (bitwise protect) made (machine state₀ memory₀ journal₀)) × (length memory ≡ length memory₀) × (length journal ≡ length journal₀)
+Inv-loop calls layout deck memory₀ protect journal₀ state₀ made₀ written₀ memory journal state made written = (made ≤ length calls) × (machine state memory journal ≡ afterCalls calls deck (bitwise protect) made (machine state₀ memory₀ journal₀)) × (length memory ≡ length memory₀) × (length journal ≡ length journal₀)
 
 abbrev μ-loop : tie.MeasureT-loop
-μ-loop calls place deck memory₀ protect journal₀ state₀ made₀ written₀ memory journal state made written = length calls - made
+μ-loop calls layout deck memory₀ protect journal₀ state₀ made₀ written₀ memory journal state made written = length calls - made
 
 -- another call is to be made
 more : (c : tie.Then1 Inv-loop μ-loop) → c .before .before .loop .made < length (c .before .before .before .before .before .before .before .before .args .calls .now)

@@ -1,13 +1,14 @@
 use borrow.Author.Needs.{needs}
 use Prim.Native.Nat.{_-_, _≤_}
-use Rattle.trial.proofs.line.with_registers.Statement.{statement}
-use Rattle.trial.proofs.line.with_registers.Tie as tie
+use lib.ListN.{length}
+use Rattle.trial.proofs.line.with_words.Statement.{statement}
+use Rattle.trial.proofs.line.with_words.Tie as tie
 
 abbrev Inv-loop : tie.InvT-loop
-Inv-loop r next₀ i₀ next i = (i ≤ 8)
+Inv-loop words next₀ i₀ next i = i ≤ length words
 
 abbrev μ-loop : tie.MeasureT-loop
-μ-loop r next₀ i₀ next i = 8 - i
+μ-loop words next₀ i₀ next i = length words - i
 
 loop-holds : tie.Need-loop-holds Inv-loop μ-loop
 loop-holds c = search needs
@@ -15,8 +16,8 @@ loop-holds c = search needs
 mul-with-digits : tie.Need-mul-with-digits Inv-loop μ-loop
 mul-with-digits c = search needs
 
-array-read-with-digits : tie.Need-array-read-with-digits Inv-loop μ-loop
-array-read-with-digits c = search needs
+shared-slice-read-with-digits : tie.Need-shared-slice-read-with-digits Inv-loop μ-loop
+shared-slice-read-with-digits c = search needs
 
 with-digits-requires : tie.Need-with-digits-requires Inv-loop μ-loop
 with-digits-requires c κs = search needs
@@ -36,15 +37,15 @@ loop-again c = search needs
 returns : tie.Need-returns Inv-loop μ-loop
 returns c = search needs
 
-pub with-registers-spec : {M : Type 1} → statement M
-with-registers-spec =
+pub with-words-spec : {M : Type 1} → statement M
+with-words-spec =
     tie.close
     (tie.spec
     Inv-loop
     μ-loop
     loop-holds
     mul-with-digits
-    array-read-with-digits
+    shared-slice-read-with-digits
     with-digits-requires
     with-byte-requires
     add-i

@@ -1,0 +1,14 @@
+-- `machine::effect::select` meets its contract: by the callee.
+-- Assumes nothing.
+use borrow.Author.Needs.{needs}
+use Rattle.machine.proofs.effect.select.Statement.{statement}
+use Rattle.machine.proofs.effect.select.Tie as tie
+
+granted-requires : tie.Need-granted-requires
+granted-requires c κs = search needs
+
+returns : tie.Need-returns
+returns c = c .granted .ensures
+
+pub select-spec : {M : Type 1} → statement M
+select-spec = tie.close (tie.spec granted-requires returns)

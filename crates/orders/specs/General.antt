@@ -1,0 +1,14 @@
+-- The general registers: two sets of eight, one of which the selector names at a time (document 02, Job 8).
+use Prim.Native.Nat.{ℕ, _+_, _*_}
+use mathlib.Core.List.{List}
+use mathlib.Core.Bool.{cond, _&&_}
+use lib.Dec.{leb}
+use lib.ListN.{getD}
+
+-- which of the sixteen register r of set s is
+abbrev pub generalCell : ℕ → ℕ → ℕ
+generalCell s r = s * 8 + r
+
+-- what it holds; where there is no such set or register, 0
+unfoldable pub generalAt : List ℕ → ℕ → ℕ → ℕ
+generalAt n s r = cond (leb s 1 && leb r 7) (getD n (generalCell s r) 0) 0
