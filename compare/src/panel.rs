@@ -4,18 +4,18 @@ use crate::reference::State;
 #[repr(C)]
 #[derive(Clone, Copy)]
 struct Status {
-    condition: u8,
-    mask: u8,
+    condition: u32,
+    mask: u32,
     pointer: u16,
-    selector: u32,
+    selector: u16,
 }
 
 #[repr(C)]
 #[derive(Clone, Copy)]
 pub struct Registers {
     float: [u32; 8],
-    general: [[u32; 8]; 2],
     status: Status,
+    general: [[u32; 8]; 2],
 }
 
 #[repr(C)]

@@ -7,9 +7,9 @@ pub struct State {
     pub float: [u32; 8],
     /// Two sets; the selector names the one in use.
     pub general: [[u32; 8]; 2],
-    pub selector: u32,
-    pub code: u8,
-    pub mask: u8,
+    pub selector: u16,
+    pub code: u32,
+    pub mask: u32,
     pub pointer: u16,
     pub used: u32,
 }
@@ -49,7 +49,7 @@ fn long(hi: u32, lo: u32) -> Number {
     }
 }
 
-fn sign_code(n: Number) -> u8 {
+fn sign_code(n: Number) -> u32 {
     match (n.fraction, n.negative) {
         (0, _) => 0,
         (_, true) => 3,
@@ -70,7 +70,7 @@ fn normal(n: Number, d: u32) -> Number {
 
 /// The condition code of a short compare: by exact value.
 #[inline]
-fn compare_short(a: Number, b: Number) -> u8 {
+fn compare_short(a: Number, b: Number) -> u32 {
     let less = |x: bool| if x { 3 } else { 1 };
     match (a.fraction == 0, b.fraction == 0) {
         (true, true) => return 0,
@@ -105,7 +105,7 @@ fn moved(n: Number, c: i32, guards: u32) -> u64 {
 /// The condition code of a long compare, by the note of 8.11: of the smaller characteristic's fraction, moved right as it is,
 /// and of the other the first 64 bits are compared, with their signs.
 #[inline]
-fn compare_long(a: Number, b: Number) -> u8 {
+fn compare_long(a: Number, b: Number) -> u32 {
     let c = a.characteristic.max(b.characteristic);
     let value = |n: Number| {
         let bits = moved(n, c, 2) as i128;
@@ -214,7 +214,7 @@ fn pack_long(n: Number) -> (u32, u32) {
 }
 
 /// CVFX: the word and its code, or 11.
-fn to_fixed(w: u32) -> Result<(u32, u8), u8> {
+fn to_fixed(w: u32) -> Result<(u32, u32), u8> {
     let n = short(w);
     if n.fraction == 0 {
         return Ok((0, 0));
@@ -241,7 +241,7 @@ fn to_fixed(w: u32) -> Result<(u32, u8), u8> {
 }
 
 /// CVFL: the word and its code.
-fn to_float(w: u32) -> (u32, u8) {
+fn to_float(w: u32) -> (u32, u32) {
     let signed = w as i32;
     if signed == 0 {
         return (0, 0);
@@ -302,9 +302,9 @@ enum Change {
 
 struct Effect {
     change: Change,
-    code: u8,
-    mask: u8,
-    selector: u32,
+    code: u32,
+    mask: u32,
+    selector: u16,
     pointer: u16,
 }
 
@@ -420,7 +420,7 @@ fn effect(s: &State, cells: [u16; 4], memory: &[u16]) -> Result<Effect, u8> {
             next(general(r1, w), cc)
         }
         18 => next(Change::Two(a, selected(s)[r1]), s.code),
-        19 => Effect { mask: r2 as u8, ..next(Change::Nothing, s.code) },
+        19 => Effect { mask: r2 as u32, ..next(Change::Nothing, s.code) },
         20 => {
             let bit = match s.code {
                 0 => 4,
@@ -464,7 +464,7 @@ fn effect(s: &State, cells: [u16; 4], memory: &[u16]) -> Result<Effect, u8> {
             let (h, l) = pack_long(multiply(long(a, b), long(c, d), 14, 14, s.mask == 1)?);
             next(Change::Pair(r1, h, l), s.code)
         }
-        35 => Effect { selector: r2 as u32, ..next(Change::Nothing, s.code) },
+        35 => Effect { selector: r2 as u16, ..next(Change::Nothing, s.code) },
         _ => return Err(12),
     })
 }
@@ -578,7 +578,7 @@ pub fn step(s: &mut State, b: &mut Buffers) -> u8 {
         Err(n) => return n,
     };
     let (kind, place, left, right) = old(s, &b.memory, e.change);
-    let head = s.pointer as u32 | (s.code as u32) << 16 | (s.mask as u32) << 18 | kind << 19 | s.selector << 22;
+    let head = s.pointer as u32 | s.code << 16 | s.mask << 18 | kind << 19 | (s.selector as u32) << 22;
     let k = 4 * s.used as usize;
     b.journal[k..k + 4].copy_from_slice(&[head, place, left, right]);
     apply(s, &mut b.memory, &e);
@@ -635,9 +635,9 @@ pub fn back(s: &mut State, b: &mut Buffers) -> u8 {
     }
     let e = Effect {
         change,
-        code: (head >> 16 & 3) as u8,
-        mask: (head >> 18 & 1) as u8,
-        selector,
+        code: head >> 16 & 3,
+        mask: head >> 18 & 1,
+        selector: selector as u16,
         pointer: head as u16,
     };
     if e.code == 2 {

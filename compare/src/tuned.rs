@@ -9,7 +9,7 @@ fn norm(f: u64, d: u32) -> (u32, u64) {
     (z, f << (4 * z))
 }
 #[inline(always)]
-fn sign_code(neg: bool, f: u64) -> u8 {
+fn sign_code(neg: bool, f: u64) -> u32 {
     if f == 0 {
         0
     } else if neg {
@@ -28,12 +28,12 @@ fn key(w: u32) -> u64 {
     ((ch(w) + 6 - z) as u64) << 24 | f
 }
 #[inline(always)]
-fn compare_short(a: u32, b: u32) -> u8 {
+fn compare_short(a: u32, b: u32) -> u32 {
     ordered(a >> 31 == 1, key(a), b >> 31 == 1, key(b))
 }
 /// The first words a and b give the signs and the characteristics.
 #[inline(always)]
-fn compare_long(a: u32, fa: u64, b: u32, fb: u64) -> u8 {
+fn compare_long(a: u32, fa: u64, b: u32, fb: u64) -> u32 {
     let (ca, cb) = (ch(a), ch(b));
     let c = ca.max(cb);
     // 64 bits each; what is moved past them is lost
@@ -43,7 +43,7 @@ fn compare_long(a: u32, fa: u64, b: u32, fb: u64) -> u8 {
 }
 /// A magnitude x and its sign against y.
 #[inline(always)]
-fn ordered(na: bool, x: u64, nb: bool, y: u64) -> u8 {
+fn ordered(na: bool, x: u64, nb: bool, y: u64) -> u32 {
     let order = match (na && x > 0, nb && y > 0) {
         (false, false) => x.cmp(&y),
         (true, true) => y.cmp(&x),
@@ -158,25 +158,25 @@ struct Run<'a> {
 }
 #[inline(always)]
 fn held(s: &State) -> u32 {
-    (s.mask as u32) << 18 | s.selector << 22
+    s.mask << 18 | (s.selector as u32) << 22
 }
 impl Run<'_> {
     #[inline(always)]
     fn record(&mut self, kind: u32, place: u32, l: u32, r: u32) {
-        let h = self.s.pointer as u32 | (self.s.code as u32) << 16 | self.held | kind << 19;
+        let h = self.s.pointer as u32 | self.s.code << 16 | self.held | kind << 19;
         let k = 4 * self.s.used as usize;
         self.journal[k..k + 4].copy_from_slice(&[h, place, l, r]);
         self.s.used += 1;
     }
     #[inline(always)]
-    fn float(&mut self, r: usize, w: u32, code: u8, p: u16) {
+    fn float(&mut self, r: usize, w: u32, code: u32, p: u16) {
         self.record(1, r as u32, self.s.float[r], 0);
         self.s.float[r] = w;
         self.s.code = code;
         self.s.pointer = p;
     }
     #[inline(always)]
-    fn pair(&mut self, r: usize, h: u32, l: u32, code: u8, p: u16) {
+    fn pair(&mut self, r: usize, h: u32, l: u32, code: u32, p: u16) {
         let r2 = (r + 1) % 8;
         self.record(2, r as u32, self.s.float[r], self.s.float[r2]);
         self.s.float[r] = h;
@@ -185,7 +185,7 @@ impl Run<'_> {
         self.s.pointer = p;
     }
     #[inline(always)]
-    fn general(&mut self, r: usize, w: u32, code: u8, p: u16) {
+    fn general(&mut self, r: usize, w: u32, code: u32, p: u16) {
         let set = set(self.s);
         self.record(3, r as u32, self.s.general[set][r], 0);
         self.s.general[set][r] = w;
@@ -193,14 +193,14 @@ impl Run<'_> {
         self.s.pointer = p;
     }
     #[inline(always)]
-    fn nothing(&mut self, code: u8, p: u16) {
+    fn nothing(&mut self, code: u32, p: u16) {
         self.record(0, 0, 0, 0);
         self.s.code = code;
         self.s.pointer = p;
     }
     /// UM and SET.
     #[inline(always)]
-    fn hold(&mut self, mask: u8, selector: u32, p: u16) {
+    fn hold(&mut self, mask: u32, selector: u16, p: u16) {
         self.record(0, 0, 0, 0);
         self.s.mask = mask;
         self.s.selector = selector;
@@ -417,7 +417,7 @@ pub fn run(st: &mut State, b: &mut Buffers, limit: u32) -> (u32, u8) {
                 };
                 m.general(i, w, c, next);
             }
-            19 => m.hold(r2 as u8, s.selector, next),
+            19 => m.hold(r2 as u32, s.selector, next),
             20 => {
                 let bit = match cc {
                     0 => 4,
@@ -476,7 +476,7 @@ pub fn run(st: &mut State, b: &mut Buffers, limit: u32) -> (u32, u8) {
                     Q::Of(c, f) => m.float(i, sign | c << 24 | f as u32, cc, next),
                 }
             }
-            35 => m.hold(mask, r2 as u32, next),
+            35 => m.hold(mask, r2, next),
             _ => {
                 let (h, l) = if code == 33 {
                     (s.float[j], s.float[(j + 1) & 7])

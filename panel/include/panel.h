@@ -12,17 +12,17 @@
 #include <stdint.h>
 
 typedef struct {
-    uint8_t condition; /* condition code: 0, 1 or 3 */
-    uint8_t mask;      /* underflow mask: 0 or 1 */
-    uint16_t pointer;  /* the order that comes next */
-    uint32_t selector; /* the set of general registers in use: 0 or 1 */
+    uint32_t condition; /* condition code: 0, 1 or 3 */
+    uint32_t mask;      /* underflow mask: 0 or 1 */
+    uint16_t pointer;   /* the order that comes next */
+    uint16_t selector;  /* the set of general registers in use: 0 or 1 */
 } panel_status;
 
 /* What one user's orders see. A fresh one is all zero. */
 typedef struct {
-    uint32_t floats[8];      /* float registers */
-    uint32_t generals[2][8]; /* general registers: two sets of eight */
+    uint32_t floats[8]; /* float registers */
     panel_status status;
+    uint32_t generals[2][8]; /* general registers: two sets of eight */
 } panel_registers;
 
 typedef struct {

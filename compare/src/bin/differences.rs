@@ -58,20 +58,19 @@ fn state(r: &mut Random) -> State {
     let mut s = State::default();
     s.float = s.float.map(|_| r.float());
     s.general = s.general.map(|set| set.map(|_| general(r)));
-    s.selector = r.below(2) as u32;
+    s.selector = r.below(2) as u16;
     s.code = [0, 1, 3][r.below(3) as usize];
-    s.mask = r.below(2) as u8;
+    s.mask = r.below(2) as u32;
     s
 }
 
-/// A state that no call leaves behind.
+/// A state that no call leaves behind; often one high bit is set above a legal value, which a narrower word would not have.
 fn wild(r: &mut Random, s: &mut State) {
     match r.below(5) {
-        0 => s.code = r.next() as u8,
-        1 => s.mask = r.next() as u8,
+        0 => s.code = r.below(4) as u32 | 1 << r.below(32),
+        1 => s.mask = r.below(2) as u32 | 1 << r.below(32),
         2 => s.used = r.next() as u32 >> r.below(32),
-        // mostly one high bit above a legal selector, which a reader of a narrower word would miss
-        3 => s.selector = r.below(2) as u32 | 1 << r.below(32),
+        3 => s.selector = r.below(2) as u16 | 1 << r.below(16),
         _ => s.pointer = r.next() as u16,
     }
 }

@@ -22,7 +22,7 @@ fn halfwords(b: Words) -> [u16; 4]
 }
 
 // The number that the step answers.
-pub fn attempt(o: Order, second: Words, float: [u32; 8], mask: u8) -> u8
+pub fn attempt(o: Order, second: Words, float: [u32; 8], mask: u32) -> u8
     ensures { λ r. ⌜ r ≡ stepped (attemptDeck o) attemptProtect (attemptMachine float mask second) .stop ⌝ }
 {
     let general = [0; 16]; // no index

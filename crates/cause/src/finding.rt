@@ -47,7 +47,7 @@ fn access(op: Operation, o: Order, registers: Registers, memory: &[u16], protect
     let float = registers.float;
     let general = registers.general;
     let status = registers.status;
-    let selector = status.selector;
+    let selector = status.selector as u32;
     let at = address(o, &general, selector);
     let fetched = machine::fetch(o, &float, &general, selector, memory);
     let Fetched::Read(q) = fetched else {

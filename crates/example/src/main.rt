@@ -1,6 +1,6 @@
 // Runs the deck of document 01's example from cells, steps it back to the start and forward again, and
-// writes what stands after each call: the call, its steps, stop, pointer, condition code, mask and used
-// count; then the float and the general registers.
+// writes what stands after each call: the call, its steps, stop, pointer, condition code, mask, used
+// count and selector; then the float registers and both sets of general ones.
 use machine::Ran;
 use machine::State;
 use machine::Stop;
@@ -55,11 +55,13 @@ fn show(name: [u8; 4], r: Ran) {
     let t = trial::with_decimal(t, r.count);
     let t = trial::with_decimal(t, machine::number(stop) as u32);
     let t = trial::with_decimal(t, g.status.pointer as u32);
-    let t = trial::with_decimal(t, g.status.condition as u32);
-    let t = trial::with_decimal(t, g.status.mask as u32);
-    trial::write(trial::ended(trial::with_decimal(t, s.used)));
-    trial::write(trial::ended(trial::with_registers(trial::empty(), float)));
-    trial::write(trial::ended(trial::with_registers(trial::empty(), general)));
+    let t = trial::with_decimal(t, g.status.condition);
+    let t = trial::with_decimal(t, g.status.mask);
+    let t = trial::with_decimal(t, s.used);
+    trial::write(trial::ended(trial::with_decimal(t, g.status.selector as u32)));
+    trial::write(trial::ended(trial::with_float(trial::empty(), float)));
+    trial::write(trial::ended(trial::with_set_0(trial::empty(), general)));
+    trial::write(trial::ended(trial::with_set_1(trial::empty(), general)));
 }
 
 // One call, shown.

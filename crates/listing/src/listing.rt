@@ -93,7 +93,7 @@ fn with_registers(t: Listing, g: Registers) -> Listing
     let mut next = t;
     let float = g.float;
     let general = g.general;
-    let selector = g.status.selector;
+    let selector = g.status.selector as u32;
     let mut i = 0;
     while i < 8 {
         let word = general_at(&general, selector, i as u32);

@@ -2,34 +2,56 @@
 use crate::change::put;
 use crate::change::store;
 use crate::decide::decide;
-use crate::journal::keep;
+use crate::journal::record_of;
+use crate::journal::write_record;
 use crate::state::Status;
 use crate::stop::Stop;
 use crate::verdict::Verdict;
 ghost use mathlib.Core.Path.{_≡_};
 ghost use Rattle.protection.specs.Bits.{bitwise};
+ghost use Rattle.machine.specs.Status.{status};
 ghost use Rattle.machine.specs.Stops.{numberOf};
 ghost use Rattle.machine.specs.Machine.{machineOf};
 ghost use Rattle.machine.specs.Step.{outcome};
 ghost use Rattle.machine.specs.Run.{stepsOf};
 
 // What stands after some steps beside the registers and the lent buffers, and how the steps ended. The
-// count parts two fields that the state has side by side: loaded as one word, they would wait for two
-// stores.
+// parts of the status are apart, and no two stand here side by side that do so in the state: loaded as
+// one word, they would wait for two stores.
 pub struct Advanced {
     pub used: u32,
+    pub condition: u32,
     pub count: u32,
-    pub status: Status,
+    pub mask: u32,
+    pub pointer: u16,
     pub stop: Stop,
+    pub selector: u16,
+}
+
+fn ended(s: Status, used: u32, count: u32, stop: Stop) -> Advanced
+    ensures { λ r. ⌜ (status (r .condition) (r .mask) (r .pointer) (r .selector) ≡ s) × (r .used ≡ used) × (r .count ≡ count) × (r .stop ≡ stop) ⌝ }
+{
+    Advanced {
+        used,
+        condition: s.condition,
+        count,
+        mask: s.mask,
+        pointer: s.pointer,
+        stop,
+        selector: s.selector,
+    }
 }
 
 // Steps to the limit, which is looked at first, or to a stop. The registers are lent, from here down to
 // where a word is read, and changed in place: a copy of a set that was just stored to waits for the
-// store.
+// store. So the registers are stored to first, before memory and journal.
 pub fn advance(
     float: &mut [u32; 8],
     general: &mut [u32; 16],
-    start: Status,
+    condition: u32,
+    mask: u32,
+    pointer: u16,
+    selector: u16,
     first: u32,
     deck: &[u16],
     memory: &mut [u16],
@@ -37,39 +59,35 @@ pub fn advance(
     journal: &mut [u32],
     limit: u32,
 ) -> Advanced
-    ensures { λ r. ⌜ outcome (machineOf (now (float .exit)) (now (general .exit)) (r .status) (r .used) (now (memory .exit)) (now (journal .exit))) (r .count) (numberOf (r .stop))
-        ≡ stepsOf (now (deck .entry)) (bitwise (now (protect .entry))) limit (machineOf (now (float .entry)) (now (general .entry)) start first (now (memory .entry)) (now (journal .entry))) ⌝ }
+    ensures { λ r. ⌜ outcome (machineOf (now (float .exit)) (now (general .exit)) (status (r .condition) (r .mask) (r .pointer) (r .selector)) (r .used) (now (memory .exit)) (now (journal .exit))) (r .count) (numberOf (r .stop))
+        ≡ stepsOf (now (deck .entry)) (bitwise (now (protect .entry))) limit (machineOf (now (float .entry)) (now (general .entry)) (status condition mask pointer selector) first (now (memory .entry)) (now (journal .entry))) ⌝ }
 {
-    let mut status = start;
+    let mut now = Status {
+        condition,
+        mask,
+        pointer,
+        selector,
+    };
     let mut used = first;
     let mut count: u32 = 0;
     while count < limit {
         let words = journal.len();
-        let v = decide(float, general, status, used, deck, memory, protect, words);
+        let v = decide(float, general, now, used, deck, memory, protect, words);
         match v {
             Verdict::Refused(stop) => {
-                return Advanced {
-                    used,
-                    count,
-                    status,
-                    stop,
-                };
+                return ended(now, used, count, stop);
             }
             Verdict::Granted(e) => {
                 let change = e.change;
-                keep(float, general, status, used, e, memory, journal);
+                let record = record_of(float, general, now, e, memory);
+                now = e.status;
+                put(change, float, general, now.selector as u32);
                 store(change, memory);
-                status = e.status;
-                put(change, float, general, status.selector);
+                write_record(journal, used, record);
                 used += 1;
             }
         }
         count += 1;
     }
-    Advanced {
-        used,
-        count,
-        status,
-        stop: Stop::Taken,
-    }
+    ended(now, used, count, Stop::Taken)
 }

@@ -103,7 +103,7 @@ pub fn old(
         Change::Pair(r, hi, lo) => {
             Change::Pair(r, float[r as usize], float[(r as usize + 1) % 8])
         }
-        Change::General(r, w) => Change::General(r, general_at(general, status.selector, r)),
+        Change::General(r, w) => Change::General(r, general_at(general, status.selector as u32, r)),
         Change::Two(at, w) => Change::Two(at, word_at(memory, at as usize)),
         Change::Four(at, hi, lo) => {
             let a = crate::operand::long_at(memory, at as usize);
@@ -142,7 +142,7 @@ pub fn registers_after(e: Effect, g: Registers) -> Registers
     let status = e.status;
     let mut float = g.float;
     let mut general = g.general;
-    put(ch, &mut float, &mut general, status.selector);
+    put(ch, &mut float, &mut general, status.selector as u32);
     Registers {
         float,
         general,

@@ -37,7 +37,7 @@ pub fn buffers_sized(protect: &[u8], memory: usize, journal: usize) -> bool
     protect.len() == cover(memory)
 }
 
-pub fn condition_formed(condition: u8) -> bool
+pub fn condition_formed(condition: u32) -> bool
     ensures { λ r. ⌜ r ≡ conditionFormed condition ⌝ }
 {
     if condition == 0 {

@@ -80,7 +80,7 @@ fn judge(
     if full {
         return Verdict::Refused(Stop::JournalFull);
     }
-    let at = address(o, general, status.selector);
+    let at = address(o, general, status.selector as u32);
     if !is_present(span(op), at, memory.len()) {
         return Verdict::Refused(Stop::AbsentStorage);
     }

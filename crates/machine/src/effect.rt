@@ -28,11 +28,11 @@ ghost use Rattle.hexfloat.specs.Convert.{toFixed};
 ghost use Rattle.hexfloat.specs.Result.{saysResult};
 ghost use Rattle.machine.specs.Effect.{
   nextEffect,
+  keptCondition,
   loaded,
   complemented,
   comparedWith,
   fixedInto,
-  conditionAfter,
   resultInto,
   divided,
   summedInto,
@@ -54,7 +54,21 @@ fn granted(s: Status, change: Change, condition: u8) -> Verdict
     ensures { λ v. ⌜ says v ≡ gives (nextEffect s change condition) ⌝ }
 {
     let status = Status {
-        condition,
+        condition: condition as u32,
+        mask: s.mask,
+        pointer: s.pointer + 1,
+        selector: s.selector,
+    };
+    Verdict::Granted(Effect { change, status })
+}
+
+// The same, with the condition code that stands.
+fn granted_as_is(s: Status, change: Change) -> Verdict
+    requires { ⌜ s .pointer + 1 < 65536 ⌝ }
+    ensures { λ v. ⌜ says v ≡ gives (keptCondition s change) ⌝ }
+{
+    let status = Status {
+        condition: s.condition,
         mask: s.mask,
         pointer: s.pointer + 1,
         selector: s.selector,
@@ -144,22 +158,16 @@ fn place_result(sets: bool, width: Width, s: Status, r: u32, result: Result) -> 
 {
     match result {
         Result::Number(a) => {
-            let condition = condition_after(sets, width, a, s.condition);
-            granted(s, float_change(width, r, a), condition)
+            let change = float_change(width, r, a);
+            if sets {
+                return granted(s, change, hexfloat::condition(width, a));
+            }
+            granted_as_is(s, change)
         }
         Result::ZeroDivisor => Verdict::Refused(Stop::ZeroDivisor),
         Result::Overflow => Verdict::Refused(Stop::Overflow),
         Result::Underflow => Verdict::Refused(Stop::Underflow),
     }
-}
-
-fn condition_after(sets: bool, width: Width, a: Words, before: u8) -> u8
-    ensures { λ r. ⌜ r ≡ conditionAfter sets width a before ⌝ }
-{
-    if sets {
-        return hexfloat::condition(width, a);
-    }
-    before
 }
 
 fn load_general(s: Status, r: u32, w: u32) -> Verdict
@@ -171,33 +179,30 @@ fn load_general(s: Status, r: u32, w: u32) -> Verdict
 
 // UM.
 fn set_mask(s: Status, mask: u16) -> Verdict
-    requires { ⌜ (s .pointer + 1 < 65536) × (mask < 256) ⌝ }
-    ensures { λ v. ⌜ says v ≡ gives (masked s mask) ⌝ }
-{
-    let status = Status {
-        condition: s.condition,
-        mask: mask as u8,
-        pointer: s.pointer + 1,
-        selector: s.selector,
-    };
-    Verdict::Granted(Effect {
-        change: Change::Nothing,
-        status,
-    })
-}
-
-// SET.
-fn select(s: Status, selector: u32) -> Verdict
     requires { ⌜ s .pointer + 1 < 65536 ⌝ }
-    ensures { λ v. ⌜ says v ≡ gives (selected s selector) ⌝ }
+    ensures { λ v. ⌜ says v ≡ gives (masked s mask) ⌝ }
 {
     let chosen = Status {
         condition: s.condition,
-        mask: s.mask,
+        mask: mask as u32,
         pointer: s.pointer,
+        selector: s.selector,
+    };
+    granted_as_is(chosen, Change::Nothing)
+}
+
+// SET.
+fn select(before: Status, selector: u16) -> Verdict
+    requires { ⌜ before .pointer + 1 < 65536 ⌝ }
+    ensures { λ v. ⌜ says v ≡ gives (selected before selector) ⌝ }
+{
+    let chosen = Status {
+        condition: before.condition,
+        mask: before.mask,
+        pointer: before.pointer,
         selector,
     };
-    granted(chosen, Change::Nothing, s.condition)
+    granted_as_is(chosen, Change::Nothing)
 }
 
 // An order whose second operand is b; S, if it has one, is at `at`.
@@ -215,8 +220,7 @@ fn perform(
     ensures { λ v. ⌜ says v ≡ performed verb width o (registers (now (float .entry)) (now (general .entry)) status) at b ⌝ }
 {
     let r = o.r1 as u32;
-    let condition = status.condition;
-    let selector = status.selector;
+    let selector = status.selector as u32;
     match verb {
         Verb::Load => load(width, status, r, b),
         Verb::Complement => load(width, status, r, complement(b)),
@@ -229,12 +233,12 @@ fn perform(
         Verb::Divide => divide(width, status, r, float_operand(width, float, r), b),
         Verb::Store => {
             let a = float_operand(width, float, r);
-            granted(status, storage_change(width, at, a), condition)
+            granted_as_is(status, storage_change(width, at, a))
         }
         Verb::LoadGeneral => load_general(status, r, b.high),
         Verb::StoreGeneral => {
             let w = general_at(general, selector, r);
-            granted(status, Change::Two(at, w), condition)
+            granted_as_is(status, Change::Two(at, w))
         }
         Verb::SetMask => set_mask(status, o.r2),
         Verb::Jump => jump(status, r, o.at),
@@ -245,7 +249,7 @@ fn perform(
             sum(sense, width, status, r, a, b)
         }
         Verb::Multiply => multiply(width, status, r, float_operand(width, float, r), b),
-        Verb::Select => select(status, o.r2 as u32),
+        Verb::Select => select(status, o.r2),
     }
 }
 
@@ -266,6 +270,6 @@ pub fn effect(
     let verb = op.verb;
     let width = op.width;
     let place = op.place;
-    let b = second_operand(place, width, o, float, general, status.selector, memory, at);
+    let b = second_operand(place, width, o, float, general, status.selector as u32, memory, at);
     perform(verb, width, o, float, general, status, at, b)
 }

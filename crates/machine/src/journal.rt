@@ -7,6 +7,7 @@ use crate::stop::Stop;
 use crate::verdict::Effect;
 use crate::verdict::Verdict;
 ghost use mathlib.Core.Path.{_≡_};
+ghost use mathlib.Core.Bool.{true};
 ghost use Prim.Native.Nat.{_+_, _*_, _≤_, _<_};
 ghost use lib.ListN.{length};
 ghost use Rattle.machine.specs.Journal.{
@@ -20,7 +21,8 @@ ghost use Rattle.machine.specs.Journal.{
   changeFrom,
   decoded,
 };
-ghost use Rattle.machine.specs.Machine.{registers, beforeOf, Committable};
+ghost use Rattle.machine.specs.Change.{registered, placed};
+ghost use Rattle.machine.specs.Machine.{registers, beforeOf};
 ghost use Rattle.machine.specs.Says.{says};
 ghost use Rattle.machine.specs.Status.{packed, unpacked, Packable};
 
@@ -73,19 +75,19 @@ fn pack(s: Status) -> u32
     ensures { λ r. ⌜ (r ≡ packed s) × (r < 8388608) ⌝ }
 {
     s.pointer as u32
-        + 65536 * (s.condition as u32)
-        + 262144 * (s.mask as u32)
-        + 4194304 * s.selector
+        + 65536 * s.condition
+        + 262144 * s.mask
+        + 4194304 * (s.selector as u32)
 }
 
 fn unpack(head: u32) -> Status
     ensures { λ r. ⌜ r ≡ unpacked head ⌝ }
 {
     Status {
-        condition: (head / 65536 % 4) as u8,
-        mask: (head / 262144 % 2) as u8,
+        condition: head / 65536 % 4,
+        mask: head / 262144 % 2,
         pointer: (head % 65536) as u16,
-        selector: head / 4194304 % 2,
+        selector: (head / 4194304 % 2) as u16,
     }
 }
 
@@ -113,26 +115,23 @@ fn encode(e: Effect) -> Record
     encode_change(pack(status), ch)
 }
 
-// The record of what an effect overwrites, at the used count.
-pub fn keep(
+// The record of what an effect overwrites.
+pub fn record_of(
     float: &[u32; 8],
     general: &[u32; 16],
     status: Status,
-    used: u32,
     e: Effect,
     memory: &[u16],
-    journal: &mut [u32],
-)
-    requires { ⌜ Committable e status used (length (now memory)) (length (now journal)) ⌝ }
-    ensures { λ _. ⌜ now (journal .exit)
-        ≡ written (now (journal .entry)) used (encoded (beforeOf (registers (now (float .entry)) (now (general .entry)) status) (now (memory .entry)) e)) ⌝ }
+) -> Record
+    requires { ⌜ (registered (e .change) ≡ true) × (placed (e .change) (length (now memory)) ≡ true) × Packable status ⌝ }
+    ensures { λ q. ⌜ q ≡ encoded (beforeOf (registers (now (float .entry)) (now (general .entry)) status) (now (memory .entry)) e) ⌝ }
 {
     let change = e.change;
     let before = Effect {
         change: old(float, general, status, memory, change),
         status,
     };
-    write_record(journal, used, encode(before));
+    encode(before)
 }
 
 // The change of a record, or that its form is broken.

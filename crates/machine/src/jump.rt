@@ -10,7 +10,7 @@ ghost use Rattle.machine.specs.Jump.{jumps, jumpedTo, jumped, oneLess, c
 ghost use Rattle.machine.specs.Says.{says};
 
 // Whether the bit for the condition code is set among JC's three.
-fn is_set(bits: u32, condition: u8) -> bool
+fn is_set(bits: u32, condition: u32) -> bool
     ensures { λ r. ⌜ r ≡ jumps bits condition ⌝ }
 {
     if condition == 0 {

@@ -2,6 +2,7 @@
 use crate::advance::advance;
 use crate::decide::entry;
 use crate::state::State;
+use crate::state::Status;
 use crate::state::assemble;
 use crate::stop::Stop;
 use crate::stop::number;
@@ -47,7 +48,10 @@ pub fn run(
     let r = advance(
         &mut float,
         &mut general,
-        start,
+        start.condition,
+        start.mask,
+        start.pointer,
+        start.selector,
         used,
         deck,
         memory,
@@ -55,7 +59,12 @@ pub fn run(
         journal,
         limit,
     );
-    let status = r.status;
+    let status = Status {
+        condition: r.condition,
+        mask: r.mask,
+        pointer: r.pointer,
+        selector: r.selector,
+    };
     let state = assemble(float, general, status, r.used);
     let count = r.count;
     let stop = r.stop;

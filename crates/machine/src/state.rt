@@ -4,21 +4,23 @@ ghost use Rattle.machine.specs.Fresh.{freshState};
 ghost use Rattle.machine.specs.Machine.{registers, state};
 
 // What word 0 of a record saves: condition code, underflow mask, the order that comes next, and which
-// set of general registers is in use. The selector has the width that leaves no padding.
+// set of general registers is in use. No padding arises, and the size is one at which the compiler
+// keeps the parts apart: four or eight bytes would be one word.
 #[repr(C)]
 pub struct Status {
-    pub condition: u8,
-    pub mask: u8,
+    pub condition: u32,
+    pub mask: u32,
     pub pointer: u16,
-    pub selector: u32,
+    pub selector: u16,
 }
 
-// The registers that orders see; of the general ones both sets, register r of set s at 8 s + r.
+// The registers that orders see; of the general ones both sets, register r of set s at 8 s + r. The
+// status stands between the arrays: side by side, they would be copied once more.
 #[repr(C)]
 pub struct Registers {
     pub float: [u32; 8],
-    pub general: [u32; 16],
     pub status: Status,
+    pub general: [u32; 16],
 }
 
 // The registers, and how many records of the journal are in use.

@@ -1,6 +1,7 @@
 // One step.
 use crate::advance::advance;
 use crate::state::State;
+use crate::state::Status;
 use crate::state::assemble;
 use crate::stop::Stop;
 ghost use mathlib.Core.Path.{_≡_};
@@ -32,7 +33,10 @@ pub fn step(
     let r = advance(
         &mut float,
         &mut general,
-        start,
+        start.condition,
+        start.mask,
+        start.pointer,
+        start.selector,
         s.used,
         deck,
         memory,
@@ -40,7 +44,12 @@ pub fn step(
         journal,
         1,
     );
-    let status = r.status;
+    let status = Status {
+        condition: r.condition,
+        mask: r.mask,
+        pointer: r.pointer,
+        selector: r.selector,
+    };
     let state = assemble(float, general, status, r.used);
     let stop = r.stop;
     Stepped { state, stop }

@@ -178,10 +178,10 @@ fn read_heading() -> Heading {
     };
     Heading {
         status: Status {
-            condition: (condition % 256) as u8,
-            mask: (mask % 256) as u8,
+            condition,
+            mask,
             pointer: (pointer % 65536) as u16,
-            selector,
+            selector: (selector % 65536) as u16,
         },
         used,
         formed: true,

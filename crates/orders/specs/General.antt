@@ -1,4 +1,4 @@
--- The general registers: two sets of eight, one of which the selector names at a time (document 02, Job 8).
+-- The general registers: two sets of eight, of which one is in use at a time (2.2.1; document 02, Job 8).
 use Prim.Native.Nat.{ℕ, _+_, _*_}
 use mathlib.Core.List.{List}
 use mathlib.Core.Bool.{cond, _&&_}

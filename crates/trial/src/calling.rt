@@ -76,11 +76,11 @@ fn with_calls_state(t: Line, s: State) -> Line {
     let float = g.float;
     let general = g.general;
     let t = with_decimal(t, status.pointer as u32);
-    let t = with_decimal(t, status.condition as u32);
-    let t = with_decimal(t, status.mask as u32);
+    let t = with_decimal(t, status.condition);
+    let t = with_decimal(t, status.mask);
     let t = with_decimal(t, s.used);
     let t = with_set_0(with_float(t, float), general);
-    with_set_1(with_decimal(t, status.selector), general)
+    with_set_1(with_decimal(t, status.selector as u32), general)
 }
 
 // The numbers as the case's second line has them, then the registers.
@@ -89,11 +89,11 @@ fn with_odd_state(t: Line, s: State) -> Line {
     let status = g.status;
     let float = g.float;
     let general = g.general;
-    let t = with_decimal(t, status.condition as u32);
-    let t = with_decimal(t, status.mask as u32);
+    let t = with_decimal(t, status.condition);
+    let t = with_decimal(t, status.mask);
     let t = with_decimal(t, status.pointer as u32);
     let t = with_decimal(t, s.used);
-    let t = with_decimal(t, status.selector);
+    let t = with_decimal(t, status.selector as u32);
     with_set_1(with_set_0(with_float(t, float), general), general)
 }
 

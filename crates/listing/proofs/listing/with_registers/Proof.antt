@@ -16,6 +16,9 @@ Inv-loop next₀ float general selector i₀ next i = (i ≤ 8) × Appended next
 abbrev μ-loop : tie.MeasureT-loop
 μ-loop next₀ float general selector i₀ next i = 8 - i
 
+cast-selector : tie.Need-cast-selector Inv-loop μ-loop
+cast-selector c = search needs
+
 loop-holds : tie.Need-loop-holds Inv-loop μ-loop
 unfolding registerLines
 loop-holds c = (omega arith, nothing)
@@ -37,7 +40,7 @@ array-read-with-register c = omega arith
 
 with-register-requires : tie.Need-with-register-requires Inv-loop μ-loop
 with-register-requires c κs =
-    let g = c .before .before .before .before .before .before .args .g in
+    let g = c .before .before .before .before .before .before .before .args .g in
     omega (arith, c .before .before .before .loop .inv .1 .size, lines-length (c .before .before .before .loop .i) (g .float) (g .general) (g .status .selector))
 
 add-i : tie.Need-add-i Inv-loop μ-loop
@@ -61,6 +64,7 @@ with-registers-spec =
     (tie.spec
     Inv-loop
     μ-loop
+    cast-selector
     loop-holds
     cast-general-at
     general-at-requires

@@ -13,11 +13,11 @@ use Rattle.machine.proofs.advance.advance.Statement.{statement}
 use Rattle.machine.proofs.advance.advance.Tie as tie
 
 abbrev Inv-loop : tie.InvT-loop
-Inv-loop float₀ general₀ first deck memory₀ protect journal₀ limit status₀ used₀ count₀ float general memory journal status used count =
-    Under deck (bitwise protect) limit (machineOf float₀ general₀ status₀ used₀ memory₀ journal₀) (machineOf float general status used memory journal) count
+Inv-loop float₀ general₀ condition mask pointer selector first deck memory₀ protect journal₀ limit now₀ used₀ count₀ float general memory journal now used count =
+    Under deck (bitwise protect) limit (machineOf float₀ general₀ now₀ used₀ memory₀ journal₀) (machineOf float general now used memory journal) count
 
 abbrev μ-loop : tie.MeasureT-loop
-μ-loop float₀ general₀ first deck memory₀ protect journal₀ limit status₀ used₀ count₀ float general memory journal status used count = limit - count
+μ-loop float₀ general₀ condition mask pointer selector first deck memory₀ protect journal₀ limit now₀ used₀ count₀ float general memory journal now used count = limit - count
 
 loop-holds : tie.Need-loop-holds Inv-loop μ-loop
 loop-holds c = under-start _ _ _ _
@@ -28,69 +28,89 @@ decide-requires c κs = tt
 enum-known-v : tie.Need-enum-known-v Inv-loop μ-loop
 enum-known-v c = search needs
 
+ended-requires : tie.Need-ended-requires Inv-loop μ-loop
+ended-requires c κs = search needs
+
 same-length : tie.Need-same-length Inv-loop μ-loop
-same-length c = c .before .before .before .before .before .before .before .before .loop .inv .memory
+same-length c = c .before .before .before .before .before .before .before .before .before .loop .inv .memory
 
 same-length-2 : tie.Need-same-length-2 Inv-loop μ-loop
-same-length-2 c = c .before .before .before .before .before .before .before .before .loop .inv .journal
+same-length-2 c = c .before .before .before .before .before .before .before .before .before .loop .inv .journal
 
 returns : tie.Need-returns Inv-loop μ-loop
 returns c =
-    let at = c .before .before .before .before .before .before .before in
-    sym (under-stop _ _ _ _ _ _ (at .before .loop .inv) _ (omega (arith, at .loop-test .taken)) (sym (c .before .before .before .decide .ensures) ∙ ap says (c .before .v .given .1)))
+    let at = c .before .before .before .before .before .before .before .before in
+    let r = c .ended .ensures in
+    rw (r .0, r .1, r .2, r .3)
+    (sym (under-stop _ _ _ _ _ _ (at .before .loop .inv) _ (omega (arith, at .loop-test .taken)) (sym (c .before .before .before .before .decide .ensures) ∙ ap says (c .before .before .v .given .1))))
 
 enum-known-v-2 : tie.Need-enum-known-v-2 Inv-loop μ-loop
 enum-known-v-2 c = search needs
 
-keep-requires : tie.Need-keep-requires Inv-loop μ-loop
-keep-requires c κs =
-    let step = c .before .before .before .before .before in
-    committable _ _ _ _ _ _ _ (sym (step .before .before .decide .ensures) ∙ ap says (step .v2 .given .1))
+record-of-requires : tie.Need-record-of-requires Inv-loop μ-loop
+record-of-requires c κs =
+    let step = c .before .before .before .before in
+    let known = committable _ _ _ _ _ _ _ (sym (step .before .before .decide .ensures) ∙ ap says (step .v2 .given .1)) in
+    (known .register, known .there, known .status)
 
-store-requires : tie.Need-store-requires Inv-loop μ-loop
-store-requires c κs =
-    let step = c .before .before .before .before .before .before .before .before .before in
-    committable _ _ _ _ _ _ _ (sym (step .before .before .decide .ensures) ∙ ap says (step .v2 .given .1)) .there
+cast-put : tie.Need-cast-put Inv-loop μ-loop
+cast-put c = search needs
 
 put-requires : tie.Need-put-requires Inv-loop μ-loop
 put-requires c κs =
-    let step = c .before .before .before .before .before .before .before .before .before .before .before .before .before .before .before in
+    let step = c .before .before .before .before .before .before .before .before .before in
     let known = committable _ _ _ _ _ _ _ (sym (step .before .before .decide .ensures) ∙ ap says (step .v2 .given .1)) in
     (known .register, known .selector)
 
+store-requires : tie.Need-store-requires Inv-loop μ-loop
+store-requires c κs =
+    let step = c .before .before .before .before .before .before .before .before .before .before .before in
+    committable _ _ _ _ _ _ _ (sym (step .before .before .decide .ensures) ∙ ap says (step .v2 .given .1)) .there
+
+write-record-requires : tie.Need-write-record-requires Inv-loop μ-loop
+write-record-requires c κs =
+    let step = c .before .before .before .before .before .before .before .before .before .before .before .before .before .before .before in
+    committable _ _ _ _ _ _ _ (sym (step .before .before .decide .ensures) ∙ ap says (step .v2 .given .1)) .room
+
 add-used : tie.Need-add-used Inv-loop μ-loop
 add-used c =
-    let step = c .before .before .before .before .before .before .before .before .before .before .before .before .before .before .before .before in
+    let step = c .before .before .before .before .before .before .before .before .before .before .before .before .before .before .before .before .before .before in
     omega (arith, committable _ _ _ _ _ _ _ (sym (step .before .before .decide .ensures) ∙ ap says (step .v2 .given .1)) .count)
 
 add-count : tie.Need-add-count Inv-loop μ-loop
 add-count c =
-    let at = c .before .before .before .before .before .before .before .before .before .before .before .before .before .before .before .before .before .before .before .before .before .before in
+    let at = c .before .before .before .before .before .before .before .before .before .before .before .before .before .before .before .before .before .before .before .before .before .before .before .before in
     omega (arith, at .loop-test .taken, at .before .before .before .before .before .before .fits .limit .fits)
 
 loop-less : tie.Need-loop-less Inv-loop μ-loop
-loop-less c = omega (arith, c .before .before .before .before .before .before .before .before .before .before .before .before .before .before .before .before .before .before .before .before .before .before .loop-test .taken)
+loop-less c = omega (arith, c .before .before .before .before .before .before .before .before .before .before .before .before .before .before .before .before .before .before .before .before .before .before .before .before .loop-test .taken)
 
 loop-again : tie.Need-loop-again Inv-loop μ-loop
 loop-again c =
-    let after = c .put .ensures in
-    let stored = c .before .before .before .before .before .before in
-    let kept = stored .before .before .before .before in
-    let step = kept .before .before .before .before .before .before in
+    let wrote = c .before .before in
+    let stored = wrote .before .before .before .before in
+    let after = stored .before .before .put .ensures in
+    let kept = stored .before .before .before .before .before .before .before in
+    let step = kept .before .before .before .before .before in
     let at = step .before .before .before .before .before .before in
     under-on _ _ _ _ _ _ (at .before .loop .inv) _ _ (omega (arith, at .loop-test .taken)) (sym (step .before .before .decide .ensures) ∙ ap says (step .v2 .given .1))
-    (rw (after .0, after .1, stored .store .ensures, kept .keep .ensures))
+    (rw (after .0, after .1, stored .store .ensures, wrote .write-record .ensures, kept .record-of .ensures))
     (stored .store .kept .1 .0)
-    (kept .keep .kept .1 .1 .1 .1 .1 .1 .0)
+    (wrote .write-record .kept .0)
+
+ended-requires-2 : tie.Need-ended-requires-2 Inv-loop μ-loop
+ended-requires-2 c κs = search needs
 
 same-length-3 : tie.Need-same-length-3 Inv-loop μ-loop
-same-length-3 c = c .before .loop .inv .memory
+same-length-3 c = c .before .before .loop .inv .memory
 
 same-length-4 : tie.Need-same-length-4 Inv-loop μ-loop
-same-length-4 c = c .before .loop .inv .journal
+same-length-4 c = c .before .before .loop .inv .journal
 
 returns-2 : tie.Need-returns-2 Inv-loop μ-loop
-returns-2 c = sym (under-end _ _ _ _ _ _ (c .before .loop .inv) (omega (arith, c .loop-test .left)))
+returns-2 c =
+    let r = c .ended2 .ensures in
+    rw (r .0, r .1, r .2, r .3) (sym (under-end _ _ _ _ _ _ (c .before .before .loop .inv) (omega (arith, c .before .loop-test .left))))
 
 pub advance-spec : {M : Type 1} → statement M
 advance-spec =
@@ -101,17 +121,21 @@ advance-spec =
     loop-holds
     decide-requires
     enum-known-v
+    ended-requires
     same-length
     same-length-2
     returns
     enum-known-v-2
-    keep-requires
-    store-requires
+    record-of-requires
+    cast-put
     put-requires
+    store-requires
+    write-record-requires
     add-used
     add-count
     loop-less
     loop-again
+    ended-requires-2
     same-length-3
     same-length-4
     returns-2)

@@ -49,6 +49,9 @@ element-copy-out-t36 c = search needs
 enum-known-ch-3 : tie.Need-enum-known-ch-3
 enum-known-ch-3 c = search needs
 
+cast-general-at : tie.Need-cast-general-at
+cast-general-at c = search needs
+
 general-at-requires : tie.Need-general-at-requires
 general-at-requires c κs = search needs
 
@@ -84,7 +87,7 @@ returns-3 c = rw (c .before .before .before .ch2 .given .1)
 
 returns-4 : tie.Need-returns-4
 unfolding oldOf
-returns-4 c = rw (c .before .before .ch3 .given .1, c .general-at .ensures)
+returns-4 c = rw (c .before .before .before .ch3 .given .1, c .general-at .ensures)
 
 returns-5 : tie.Need-returns-5
 unfolding oldOf
@@ -112,6 +115,7 @@ old-spec =
     mul-t33
     element-copy-out-t36
     enum-known-ch-3
+    cast-general-at
     general-at-requires
     enum-known-ch-4
     cast-word-at

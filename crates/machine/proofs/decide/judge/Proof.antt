@@ -23,6 +23,9 @@ returns-2 c =
     let none = le-ltb (a .used) (a .journal / 4) (omega (arith, leb-true _ (a .used) (c .if2 .taken))) in
     rw (← c .before .before .halts .ensures, c .before .if1 .left, none)
 
+cast-address : tie.Need-cast-address
+cast-address c = search needs
+
 address-requires : tie.Need-address-requires
 address-requires c κs = search needs
 
@@ -30,16 +33,16 @@ span-requires : tie.Need-span-requires
 span-requires c κs = search needs
 
 is-present-requires : tie.Need-is-present-requires
-is-present-requires c κs = rw (c .span .ensures) (c .before .before .before .before .before .before .before .pre .span)
+is-present-requires c κs = rw (c .span .ensures) (c .before .before .before .before .before .before .before .before .pre .span)
 
 returns-3 : tie.Need-returns-3
 unfolding judged
 returns-3 c =
-    let a = c .before .before .before .before .before .before .before .before .before .args in
-    let room = lt-ltb (a .used) (a .journal / 4) (omega (arith, leb-false _ (a .used) (c .before .before .before .before .if2 .left))) in
+    let a = c .before .before .before .before .before .before .before .before .before .before .args in
+    let room = lt-ltb (a .used) (a .journal / 4) (omega (arith, leb-false _ (a .used) (c .before .before .before .before .before .if2 .left))) in
     rw (
-      ← c .before .before .before .before .before .before .halts .ensures,
-      c .before .before .before .before .before .if1 .left,
+      ← c .before .before .before .before .before .before .before .halts .ensures,
+      c .before .before .before .before .before .before .if1 .left,
       room,
       ← c .before .before .before .address .ensures,
       ← c .before .before .span .ensures,
@@ -56,11 +59,11 @@ any-protected-requires c κs = search needs
 returns-4 : tie.Need-returns-4
 unfolding judged
 returns-4 c =
-    let a = c .before .before .before .before .before .before .before .before .before .before .before .before .args in
-    let room = lt-ltb (a .used) (a .journal / 4) (omega (arith, leb-false _ (a .used) (c .before .before .before .before .before .before .before .if2 .left))) in
+    let a = c .before .before .before .before .before .before .before .before .before .before .before .before .before .args in
+    let room = lt-ltb (a .used) (a .journal / 4) (omega (arith, leb-false _ (a .used) (c .before .before .before .before .before .before .before .before .if2 .left))) in
     rw (
-      ← c .before .before .before .before .before .before .before .before .before .halts .ensures,
-      c .before .before .before .before .before .before .before .before .if1 .left,
+      ← c .before .before .before .before .before .before .before .before .before .before .halts .ensures,
+      c .before .before .before .before .before .before .before .before .before .if1 .left,
       room,
       ← c .before .before .before .before .before .before .address .ensures,
       ← c .before .before .before .before .before .span .ensures,
@@ -74,22 +77,22 @@ returns-4 c =
 effect-requires : tie.Need-effect-requires
 effect-requires c κs =
     record {
-      first = c .before .before .before .before .before .before .before .before .before .before .before .before .pre .first;
-      second = c .before .before .before .before .before .before .before .before .before .before .before .before .pre .second;
+      first = c .before .before .before .before .before .before .before .before .before .before .before .before .before .pre .first;
+      second = c .before .before .before .before .before .before .before .before .before .before .before .before .before .pre .second;
       there = rw (← c .before .before .before .before .before .span .ensures) (sym (c .before .before .before .before .is-present .ensures) ∙ not-false (c .before .before .before .before .is-present .result) (c .before .before .before .if3 .left));
-      onward = c .before .before .before .before .before .before .before .before .before .before .before .before .pre .onward;
+      onward = c .before .before .before .before .before .before .before .before .before .before .before .before .before .pre .onward;
     }
 
 returns-5 : tie.Need-returns-5
 unfolding judged
 returns-5 c =
-    let a = c .before .before .before .before .before .before .before .before .before .before .before .before .before .args in
-    let room = lt-ltb (a .used) (a .journal / 4) (omega (arith, leb-false _ (a .used) (c .before .before .before .before .before .before .before .before .if2 .left))) in
+    let a = c .before .before .before .before .before .before .before .before .before .before .before .before .before .before .args in
+    let room = lt-ltb (a .used) (a .journal / 4) (omega (arith, leb-false _ (a .used) (c .before .before .before .before .before .before .before .before .before .if2 .left))) in
     let there = rw (c .before .before .before .before .before .before .span .ensures) at (sym (c .before .before .before .before .before .is-present .ensures) ∙ not-false (c .before .before .before .before .before .is-present .result) (c .before .before .before .before .if3 .left)) in
     let free = rw (c .before .before .before .stored .ensures) at (sym (c .before .before .any-protected .ensures) ∙ c .before .if4 .left) in
     rw (
-      ← c .before .before .before .before .before .before .before .before .before .before .halts .ensures,
-      c .before .before .before .before .before .before .before .before .before .if1 .left,
+      ← c .before .before .before .before .before .before .before .before .before .before .before .halts .ensures,
+      c .before .before .before .before .before .before .before .before .before .before .if1 .left,
       room,
       ← c .before .before .before .before .before .before .before .address .ensures,
       there,
@@ -104,6 +107,7 @@ judge-spec =
     halts-requires
     returns
     returns-2
+    cast-address
     address-requires
     span-requires
     is-present-requires

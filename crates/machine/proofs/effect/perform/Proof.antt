@@ -8,6 +8,9 @@ use Rattle.machine.proofs.effect.perform.Tie as tie
 cast-r : tie.Need-cast-r
 cast-r c = search needs
 
+cast-selector : tie.Need-cast-selector
+cast-selector c = search needs
+
 enum-told : tie.Need-enum-told
 enum-told c = search needs
 
@@ -65,8 +68,8 @@ float-operand-requires-3 c κs = search needs
 storage-change-requires : tie.Need-storage-change-requires
 storage-change-requires c κs = search needs
 
-granted-requires-2 : tie.Need-granted-requires-2
-granted-requires-2 c κs = search needs
+granted-as-is-requires : tie.Need-granted-as-is-requires
+granted-as-is-requires c κs = search needs
 
 enum-told-8 : tie.Need-enum-told-8
 enum-told-8 c = search needs
@@ -80,8 +83,8 @@ enum-told-9 c = search needs
 general-at-requires : tie.Need-general-at-requires
 general-at-requires c κs = search needs
 
-granted-requires-3 : tie.Need-granted-requires-3
-granted-requires-3 c κs = search needs
+granted-as-is-requires-2 : tie.Need-granted-as-is-requires-2
+granted-as-is-requires-2 c κs = search needs
 
 enum-told-10 : tie.Need-enum-told-10
 enum-told-10 c = search needs
@@ -128,9 +131,6 @@ multiply-requires c κs = search needs
 enum-told-15 : tie.Need-enum-told-15
 enum-told-15 c = search needs
 
-cast-select : tie.Need-cast-select
-cast-select c = search needs
-
 select-requires : tie.Need-select-requires
 select-requires c κs = search needs
 
@@ -163,7 +163,7 @@ unfolding performed
 returns-7 c =
     rw (
       c .before .before .before .enum-told7 .given .1,
-      c .granted2 .ensures,
+      c .granted-as-is .ensures,
       c .before .storage-change .ensures,
       c .before .before .float-operand3 .ensures,
     )
@@ -174,7 +174,7 @@ returns-8 c = rw (c .before .enum-told8 .given .1, c .load-general .ensures)
 
 returns-9 : tie.Need-returns-9
 unfolding performed
-returns-9 c = rw (c .before .before .enum-told9 .given .1, c .granted3 .ensures, c .before .general-at .ensures)
+returns-9 c = rw (c .before .before .enum-told9 .given .1, c .granted-as-is2 .ensures, c .before .general-at .ensures)
 
 returns-10 : tie.Need-returns-10
 unfolding performed
@@ -202,13 +202,14 @@ returns-15 c = rw (c .before .before .enum-told14 .given .1, c .multiply .ensure
 
 returns-16 : tie.Need-returns-16
 unfolding performed
-returns-16 c = rw (c .before .before .enum-told15 .given .1, c .select .ensures)
+returns-16 c = rw (c .before .enum-told15 .given .1, c .select .ensures)
 
 pub perform-spec : {M : Type 1} → statement M
 perform-spec =
     tie.close
     (tie.spec
     cast-r
+    cast-selector
     enum-told
     load-requires
     enum-told-2
@@ -228,12 +229,12 @@ perform-spec =
     enum-told-7
     float-operand-requires-3
     storage-change-requires
-    granted-requires-2
+    granted-as-is-requires
     enum-told-8
     load-general-requires
     enum-told-9
     general-at-requires
-    granted-requires-3
+    granted-as-is-requires-2
     enum-told-10
     set-mask-requires
     enum-told-11
@@ -249,7 +250,6 @@ perform-spec =
     float-operand-requires-5
     multiply-requires
     enum-told-15
-    cast-select
     select-requires
     returns
     returns-2

@@ -35,7 +35,7 @@ same-length-2 c = search needs
 returns-2 : tie.Need-returns-2
 unfolding ran
 returns-2 c =
-    let went = c .before .before .before .before .before .before in
+    let went = c .before .before .before .before .before in
     let entered = went .before .before .before .before .before .before .before in
     let checks = entered .before .before .entry in
     let zero = sym (entered .before .number .ensures) ∙ entered .if1 .left in

@@ -18,7 +18,7 @@ same-length-2 : tie.Need-same-length-2
 same-length-2 c = search needs
 
 returns : tie.Need-returns
-returns c = rw (c .assemble .ensures) (one-step _ _ _ _ _ _ (c .before .before .before .before .before .before .advance .ensures))
+returns c = rw (c .assemble .ensures) (one-step _ _ _ _ _ _ (c .before .before .before .before .before .advance .ensures))
 
 pub step-spec : {M : Type 1} → statement M
 step-spec =
