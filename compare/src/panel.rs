@@ -98,7 +98,8 @@ extern "C" {
 impl From<State> for Lent {
     fn from(s: State) -> Lent {
         let State { float, general, selector, code, mask, pointer, used } = s;
-        let status = Status { condition: code, mask, pointer, selector };
+        // states have selectors of 16 bits here
+        let status = Status { condition: code, mask, pointer, selector: selector as u16 };
         Lent { registers: Registers { float, general, status }, used }
     }
 }
@@ -107,7 +108,7 @@ impl From<Lent> for State {
     fn from(l: Lent) -> State {
         let Registers { float, general, status } = l.registers;
         let Status { condition, mask, pointer, selector } = status;
-        State { float, general, selector, code: condition, mask, pointer, used: l.used }
+        State { float, general, selector: selector as u32, code: condition, mask, pointer, used: l.used }
     }
 }
 

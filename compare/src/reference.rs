@@ -7,7 +7,7 @@ pub struct State {
     pub float: [u32; 8],
     /// Two sets; the selector names the one in use.
     pub general: [[u32; 8]; 2],
-    pub selector: u16,
+    pub selector: u32,
     pub code: u32,
     pub mask: u32,
     pub pointer: u16,
@@ -304,7 +304,7 @@ struct Effect {
     change: Change,
     code: u32,
     mask: u32,
-    selector: u16,
+    selector: u32,
     pointer: u16,
 }
 
@@ -464,7 +464,7 @@ fn effect(s: &State, cells: [u16; 4], memory: &[u16]) -> Result<Effect, u8> {
             let (h, l) = pack_long(multiply(long(a, b), long(c, d), 14, 14, s.mask == 1)?);
             next(Change::Pair(r1, h, l), s.code)
         }
-        35 => Effect { selector: r2 as u16, ..next(Change::Nothing, s.code) },
+        35 => Effect { selector: r2 as u32, ..next(Change::Nothing, s.code) },
         _ => return Err(12),
     })
 }
@@ -578,7 +578,7 @@ pub fn step(s: &mut State, b: &mut Buffers) -> u8 {
         Err(n) => return n,
     };
     let (kind, place, left, right) = old(s, &b.memory, e.change);
-    let head = s.pointer as u32 | s.code << 16 | s.mask << 18 | kind << 19 | (s.selector as u32) << 22;
+    let head = s.pointer as u32 | s.code << 16 | s.mask << 18 | kind << 19 | s.selector << 22;
     let k = 4 * s.used as usize;
     b.journal[k..k + 4].copy_from_slice(&[head, place, left, right]);
     apply(s, &mut b.memory, &e);
@@ -637,7 +637,7 @@ pub fn back(s: &mut State, b: &mut Buffers) -> u8 {
         change,
         code: head >> 16 & 3,
         mask: head >> 18 & 1,
-        selector: selector as u16,
+        selector,
         pointer: head as u16,
     };
     if e.code == 2 {

@@ -158,7 +158,7 @@ struct Run<'a> {
 }
 #[inline(always)]
 fn held(s: &State) -> u32 {
-    s.mask << 18 | (s.selector as u32) << 22
+    s.mask << 18 | s.selector << 22
 }
 impl Run<'_> {
     #[inline(always)]
@@ -200,7 +200,7 @@ impl Run<'_> {
     }
     /// UM and SET.
     #[inline(always)]
-    fn hold(&mut self, mask: u32, selector: u16, p: u16) {
+    fn hold(&mut self, mask: u32, selector: u32, p: u16) {
         self.record(0, 0, 0, 0);
         self.s.mask = mask;
         self.s.selector = selector;
@@ -476,7 +476,7 @@ pub fn run(st: &mut State, b: &mut Buffers, limit: u32) -> (u32, u8) {
                     Q::Of(c, f) => m.float(i, sign | c << 24 | f as u32, cc, next),
                 }
             }
-            35 => m.hold(mask, r2, next),
+            35 => m.hold(mask, r2 as u32, next),
             _ => {
                 let (h, l) = if code == 33 {
                     (s.float[j], s.float[(j + 1) & 7])

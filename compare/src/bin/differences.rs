@@ -58,7 +58,7 @@ fn state(r: &mut Random) -> State {
     let mut s = State::default();
     s.float = s.float.map(|_| r.float());
     s.general = s.general.map(|set| set.map(|_| general(r)));
-    s.selector = r.below(2) as u16;
+    s.selector = r.below(2) as u32;
     s.code = [0, 1, 3][r.below(3) as usize];
     s.mask = r.below(2) as u32;
     s
@@ -70,7 +70,7 @@ fn wild(r: &mut Random, s: &mut State) {
         0 => s.code = r.below(4) as u32 | 1 << r.below(32),
         1 => s.mask = r.below(2) as u32 | 1 << r.below(32),
         2 => s.used = r.next() as u32 >> r.below(32),
-        3 => s.selector = r.below(2) as u16 | 1 << r.below(16),
+        3 => s.selector = r.below(2) as u32 | 1 << r.below(16),
         _ => s.pointer = r.next() as u16,
     }
 }

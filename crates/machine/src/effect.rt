@@ -270,6 +270,15 @@ pub fn effect(
     let verb = op.verb;
     let width = op.width;
     let place = op.place;
-    let b = second_operand(place, width, o, float, general, status.selector as u32, memory, at);
+    let b = second_operand(
+        place,
+        width,
+        o,
+        float,
+        general,
+        status.selector as u32,
+        memory,
+        at,
+    );
     perform(verb, width, o, float, general, status, at, b)
 }

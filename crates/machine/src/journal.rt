@@ -74,10 +74,7 @@ fn pack(s: Status) -> u32
     requires { ⌜ Packable s ⌝ }
     ensures { λ r. ⌜ (r ≡ packed s) × (r < 8388608) ⌝ }
 {
-    s.pointer as u32
-        + 65536 * s.condition
-        + 262144 * s.mask
-        + 4194304 * (s.selector as u32)
+    s.pointer as u32 + 65536 * s.condition + 262144 * s.mask + 4194304 * (s.selector as u32)
 }
 
 fn unpack(head: u32) -> Status
