@@ -33,7 +33,7 @@ use Rattle.machine.specs.Effect.{fixedInto, resultInto, productWidth, performed
 use Rattle.machine.specs.Jump.{jumped, countedDown}
 use Rattle.machine.specs.Machine.{Machine, committed}
 use Rattle.machine.specs.Operand.{floatOperand, secondOperand, addressIn}
-use Rattle.machine.specs.Step.{outcome, onward, nextOrder, verdictOf, stepped}
+use Rattle.machine.specs.Step.{outcome, onward, verdictOf, stepped}
 use Rattle.machine.proofs.Decided.{Taken, decided-taken}
 use Rattle.conditions.specs.Theorems.{OneSetAfter, OneSet}
 
