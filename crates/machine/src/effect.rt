@@ -45,35 +45,39 @@ ghost use Rattle.machine.specs.Effect.{
   effectOf,
   Ready,
 };
+ghost use Rattle.machine.specs.Journal.{effectFrom};
 ghost use Rattle.machine.specs.Machine.{registers};
 ghost use Rattle.machine.specs.Says.{says};
+ghost use Rattle.machine.specs.Status.{status};
 
-// A taken step of this change and condition code: the mask stays and the pointer moves on by one.
-fn granted(s: Status, change: Change, condition: u8) -> Verdict
+// A taken step of this change, condition code, mask and selector: the pointer moves on by one.
+fn next(s: Status, change: Change, condition: u32, mask: u32, selector: u16) -> Verdict
     requires { ⌜ s .pointer + 1 < 65536 ⌝ }
-    ensures { λ v. ⌜ says v ≡ gives (nextEffect s change condition) ⌝ }
+    ensures { λ v. ⌜ says v ≡ gives (effectFrom (status condition mask (s .pointer + 1) selector) change) ⌝ }
 {
     let status = Status {
-        condition: condition as u32,
-        mask: s.mask,
+        condition,
+        mask,
         pointer: s.pointer + 1,
-        selector: s.selector,
+        selector,
     };
     Verdict::Granted(Effect { change, status })
 }
 
-// The same, with the condition code that stands.
+// Mask and selector stay.
+fn granted(s: Status, change: Change, condition: u8) -> Verdict
+    requires { ⌜ s .pointer + 1 < 65536 ⌝ }
+    ensures { λ v. ⌜ says v ≡ gives (nextEffect s change condition) ⌝ }
+{
+    next(s, change, condition as u32, s.mask, s.selector)
+}
+
+// The condition code stays as well.
 fn granted_as_is(s: Status, change: Change) -> Verdict
     requires { ⌜ s .pointer + 1 < 65536 ⌝ }
     ensures { λ v. ⌜ says v ≡ gives (keptCondition s change) ⌝ }
 {
-    let status = Status {
-        condition: s.condition,
-        mask: s.mask,
-        pointer: s.pointer + 1,
-        selector: s.selector,
-    };
-    Verdict::Granted(Effect { change, status })
+    next(s, change, s.condition, s.mask, s.selector)
 }
 
 fn load(width: Width, s: Status, r: u32, b: Words) -> Verdict
@@ -182,27 +186,15 @@ fn set_mask(s: Status, mask: u16) -> Verdict
     requires { ⌜ s .pointer + 1 < 65536 ⌝ }
     ensures { λ v. ⌜ says v ≡ gives (masked s mask) ⌝ }
 {
-    let chosen = Status {
-        condition: s.condition,
-        mask: mask as u32,
-        pointer: s.pointer,
-        selector: s.selector,
-    };
-    granted_as_is(chosen, Change::Nothing)
+    next(s, Change::Nothing, s.condition, mask as u32, s.selector)
 }
 
 // SET.
-fn select(before: Status, selector: u16) -> Verdict
-    requires { ⌜ before .pointer + 1 < 65536 ⌝ }
-    ensures { λ v. ⌜ says v ≡ gives (selected before selector) ⌝ }
+fn select(s: Status, selector: u16) -> Verdict
+    requires { ⌜ s .pointer + 1 < 65536 ⌝ }
+    ensures { λ v. ⌜ says v ≡ gives (selected s selector) ⌝ }
 {
-    let chosen = Status {
-        condition: before.condition,
-        mask: before.mask,
-        pointer: before.pointer,
-        selector,
-    };
-    granted_as_is(chosen, Change::Nothing)
+    next(s, Change::Nothing, s.condition, s.mask, selector)
 }
 
 // An order whose second operand is b; S, if it has one, is at `at`.
