@@ -43,7 +43,7 @@ fn ended(s: Status, used: u32, count: u32, stop: Stop) -> Advanced
 }
 
 // Steps to the limit, which is looked at first, or to a stop. The registers are lent, from here down to
-// where a word is read, and changed in place: a copy of a set that was just stored to waits for the
+// where a word is read, and changed in place: a copy of an array that was just stored to waits for the
 // store. So the registers are stored to first, before memory and journal.
 pub fn advance(
     float: &mut [u32; 8],
