@@ -1,5 +1,6 @@
 -- Laws of alignment: an aligned fraction is the exact magnitude cut to the digits that are kept, over the guard digits and the digits d.
 use mathlib.Core.Path.{_≡_, refl, sym, ap, _∙_}
+use mathlib.Core.Logic.{⊎-elim}
 use Prim.Native.Nat.{ℕ, suc, _+_, _-_, _*_, _/_, _%_, _^_, _≤_, _<_}
 use native.Mathlib.Nat.{le-trans, le-of-eq, le-of-suc-le-suc, lt-of-lt-of-le, lt-of-le-of-lt, lt-of-mul-lt-mul-right, mul-le-mul-right, mul-lt-mul-of-pos-right, mul-assoc, mul-right-comm, mul-pos, zero-mul, div-one, div-eq-of-lt, div-le-self, div-add-mod'}
 use native.Mathlib.Omega.{arith}
@@ -9,7 +10,7 @@ use Rattle.hexfloat.specs.declared.word.Parts.{Parts}
 use Rattle.hexfloat.specs.Align.{commonCharacteristic, aligned, IsAligned}
 use Rattle.hexfloat.specs.Word.{magnitude}
 use Rattle.hexfloat.proofs.Digits.{pos}
-use Rattle.hexfloat.proofs.Keys.{Trichotomy, less, same, more, trichotomy}
+use Rattle.hexfloat.proofs.Keys.{below-or-not}
 use Rattle.hexfloat.proofs.Ratio.{cut-is, cut-unique}
 
 -- the common characteristic is the larger of the two
@@ -24,12 +25,8 @@ module _ (x y : Parts) where
 
   -- so what holds of the second, where it is larger, and else of the first holds of it
   common-by : (P : ℕ → Type 0) → (x .characteristic < y .characteristic → P (y .characteristic)) → (y .characteristic ≤ x .characteristic → P (x .characteristic)) → P (commonCharacteristic x y)
-  common-by P second first = go (trichotomy (x .characteristic) (y .characteristic))
-    where
-      go : Trichotomy (x .characteristic) (y .characteristic) → P (commonCharacteristic x y)
-      go (less h) = rw (common-second h) (second h)
-      go (same e) = rw (common-first (omega arith)) (first (omega arith))
-      go (more h) = rw (common-first (omega arith)) (first (omega arith))
+  common-by P second first =
+      ⊎-elim (λ h. rw (common-second h) (second h)) (λ h. rw (common-first h) (first h)) (below-or-not (x .characteristic) (y .characteristic))
 
 pub common-left : (x y : Parts) → x .characteristic ≤ commonCharacteristic x y
 common-left x y = common-by x y (λ k. x .characteristic ≤ k) (λ h. omega arith) (λ h. omega arith)

@@ -3,7 +3,6 @@ use mathlib.Core.Path.{_≡_, refl, ap₂}
 use mathlib.Core.Bool.{Bool}
 use mathlib.Core.Logic.{_⊎_, inl, inr, ⊎-elim}
 use Prim.Native.Nat.{ℕ, _+_, _-_, _*_, _/_, _^_, _≤_, _<_}
-use native.Mathlib.Nat.{eq-zero-or-pos}
 use native.Mathlib.Omega.{arith}
 use borrow.Author.Tests.{lt-ltb, le-ltb}
 use Rattle.hexfloat.specs.declared.normal.Normal.{Normal}
@@ -15,12 +14,13 @@ use Rattle.hexfloat.specs.Word.{digitsOf, partsOf, wordsOf, magnitude}
 use Rattle.hexfloat.specs.Divide.{quotient, quotientWords}
 use Rattle.hexfloat.specs.Operand.{Operand, IsPlaced, normalised, leadOf}
 use Rattle.hexfloat.proofs.Digits.{pos}
+use Rattle.hexfloat.proofs.Keys.{below-or-not}
 use Rattle.hexfloat.proofs.Normalised.{Bounds, bounds}
 use Rattle.hexfloat.proofs.Placed.{placed}
 
 -- a lead is 0 or 1, as the fractions stand to each other
 lead-cases : (a b : ℕ) → ((leadOf a b ≡ 0) × (a < b)) ⊎ ((leadOf a b ≡ 1) × (b ≤ a))
-lead-cases a b = ⊎-elim (λ e. let h : b ≤ a = omega arith in inr (rw (le-ltb a b h) (refl, h))) (λ p. let h : a < b = omega arith in inl (rw (lt-ltb a b h) (refl, h))) (eq-zero-or-pos (b - a))
+lead-cases a b = ⊎-elim (λ h. inl (rw (lt-ltb a b h) (refl, h))) (λ h. inr (rw (le-ltb a b h) (refl, h))) (below-or-not a b)
 
 lead-most : (a b : ℕ) → leadOf a b ≤ 1
 lead-most a b = ⊎-elim (λ l. rw (l .0) (omega arith)) (λ l. rw (l .0) (omega arith)) (lead-cases a b)

@@ -3,32 +3,26 @@ use mathlib.Core.Path.{_≡_, sym, ap, ap₂, _∙_}
 use mathlib.Core.Bool.{Bool, cond}
 use mathlib.Core.Logic.{⊎-elim}
 use Prim.Native.Nat.{ℕ, _+_, _-_, _*_, _/_, _^_, _≤_, _<_}
-use native.Mathlib.Nat.{le-of-eq, le-of-lt, add-mul, mul-assoc, mul-right-comm, mul-le-mul-right, mul-lt-mul-of-pos-right, mul-pos, mul-div-mul-right, zero-mul, ne-of-gt, eq-zero-or-pos}
+use native.Mathlib.Nat.{add-mul, mul-assoc, mul-right-comm, mul-le-mul-right, mul-lt-mul-of-pos-right, mul-pos, mul-div-mul-right, zero-mul, ne-of-gt, eq-zero-or-pos}
 use native.Mathlib.Omega.{arith}
 use lib.Dec.{ltb, leb, eqb}
 use borrow.Author.Tests.{lt-ltb, le-ltb, le-leb, lt-leb, eq-eqb, ne-eqb}
 use Rattle.hexfloat.specs.Add.{signed}
 use Rattle.hexfloat.specs.Normal.{digits, characteristicOf, fractionOf}
 use Rattle.hexfloat.specs.Result.{resultOf}
-use Rattle.hexfloat.proofs.Keys.{Trichotomy, less, same, more, trichotomy}
+use Rattle.hexfloat.proofs.Keys.{below-or-not}
 
 module _ (k : ℕ) (some : 0 < k) where
   -- tests of numbers that grow alike
   scaled-ltb : (a b : ℕ) → ltb (a * k) (b * k) ≡ ltb a b
-  scaled-ltb a b = go (trichotomy a b)
-    where
-      go : Trichotomy a b → ltb (a * k) (b * k) ≡ ltb a b
-      go (less h) = rw (lt-ltb (a * k) (b * k) (mul-lt-mul-of-pos-right h some), lt-ltb a b h)
-      go (same e) = rw (le-ltb (a * k) (b * k) (mul-le-mul-right k (le-of-eq (sym e))), le-ltb a b (le-of-eq (sym e)))
-      go (more h) = rw (le-ltb (a * k) (b * k) (mul-le-mul-right k (le-of-lt h)), le-ltb a b (le-of-lt h))
+  scaled-ltb a b =
+      ⊎-elim (λ h. rw (lt-ltb (a * k) (b * k) (mul-lt-mul-of-pos-right h some), lt-ltb a b h)) (λ h. rw (le-ltb (a * k) (b * k) (mul-le-mul-right k h), le-ltb a b h))
+      (below-or-not a b)
 
   scaled-leb : (a b : ℕ) → leb (a * k) (b * k) ≡ leb a b
-  scaled-leb a b = go (trichotomy a b)
-    where
-      go : Trichotomy a b → leb (a * k) (b * k) ≡ leb a b
-      go (less h) = rw (le-leb (a * k) (b * k) (mul-le-mul-right k (le-of-lt h)), le-leb a b (le-of-lt h))
-      go (same e) = rw (le-leb (a * k) (b * k) (mul-le-mul-right k (le-of-eq e)), le-leb a b (le-of-eq e))
-      go (more h) = rw (lt-leb (a * k) (b * k) (mul-lt-mul-of-pos-right h some), lt-leb a b h)
+  scaled-leb a b =
+      ⊎-elim (λ h. rw (lt-leb (a * k) (b * k) (mul-lt-mul-of-pos-right h some), lt-leb a b h)) (λ h. rw (le-leb (a * k) (b * k) (mul-le-mul-right k h), le-leb a b h))
+      (below-or-not b a)
 
   scaled-zero : (a : ℕ) → eqb (a * k) 0 ≡ eqb a 0
   scaled-zero a = ⊎-elim none more-than-none (eq-zero-or-pos a)

@@ -3,7 +3,7 @@ use mathlib.Core.Path.{_≡_, sym, ap, _∙_, subst⁻¹}
 use mathlib.Core.Bool.{Bool, true, false}
 use mathlib.Core.Logic.{_⊎_, inl, inr, ⊎-elim}
 use Prim.Native.Nat.{ℕ, suc, _*_, _+_, _/_, _^_, _≤_, _<_}
-use native.Mathlib.Nat.{le-trans, le-of-eq, le-of-lt, lt-of-lt-of-le, lt-of-le-of-lt, lt-of-mul-lt-mul-right, not-le-of-lt, ne-of-gt, mul-pos, mul-le-mul-left, one-mul, zero-mul, eq-zero-or-pos}
+use native.Mathlib.Nat.{le-trans, le-of-eq, lt-of-lt-of-le, lt-of-le-of-lt, lt-of-mul-lt-mul-right, not-le-of-lt, ne-of-gt, mul-pos, mul-le-mul-left, one-mul, zero-mul, eq-zero-or-pos}
 use native.Mathlib.Omega.{arith}
 use borrow.Author.Tests.{eq-eqb, ne-eqb}
 use Rattle.hexfloat.specs.declared.word.Parts.{Parts}
@@ -15,24 +15,19 @@ use Rattle.hexfloat.specs.Convert.{fixedMagnitude, wordMagnitude, floatP
 use Rattle.hexfloat.specs.Theorems.{OneNumber, ExactResult, ExactQuotient, ExactFixed, ExactFloat}
 use Rattle.hexfloat.proofs.Answers.{gives-inj, stops-inj, never}
 use Rattle.hexfloat.proofs.Digits.{pos, mono}
-use Rattle.hexfloat.proofs.Keys.{Trichotomy, less, same, more, trichotomy}
+use Rattle.hexfloat.proofs.Keys.{below-or-not}
 use Rattle.hexfloat.proofs.Results.{of-zero, too-large, too-small, number, by-zero, by-some}
 use Rattle.hexfloat.proofs.Ratio.{characteristic-unique, characteristic-is, fraction-unique, fraction-is, cut-is, cut-unique, above, not-above, below, not-below, below-zero}
 use Rattle.hexfloat.proofs.Converted as converted
 
 pub one-number : (d a b : ℕ) → 0 < a → 0 < b → OneNumber d a b
 one-number d a b ha hb = record {
-  some = either (trichotomy (a * 16 ^ 65) b);
+  some = ⊎-elim (λ h. inr (below-zero ha h)) (λ h. inl (characteristicOf a b, characteristic-is hb h)) (below-or-not (a * 16 ^ 65) b);
   apart = λ c k hk r s. not-le-of-lt (below s hk) (not-below r);
   one-characteristic = λ c c′ r r′. sym (characteristic-unique hb r) ∙ characteristic-unique hb r′;
   some-fraction = λ c. let r = cut-is (a * 16 ^ (64 + d)) (16 ^ c * b) (mul-pos (pos c) hb) in (a * 16 ^ (64 + d) / (16 ^ c * b), record { least = r .0; most = r .1 });
   one-fraction = λ c f f′ r r′. sym (cut-unique (a * 16 ^ (64 + d)) (16 ^ c * b) f (r .least) (r .most)) ∙ cut-unique (a * 16 ^ (64 + d)) (16 ^ c * b) f′ (r′ .least) (r′ .most);
 }
-  where
-    either : Trichotomy (a * 16 ^ 65) b → ((c : ℕ) × IsCharacteristic a b c) ⊎ ((k : ℕ) × (0 < k) × IsBelowZero a b k)
-    either (less h) = inr (below-zero ha h)
-    either (same e) = inl (characteristicOf a b, characteristic-is hb (le-of-eq (sym e)))
-    either (more h) = inl (characteristicOf a b, characteristic-is hb (le-of-lt h))
 
 -- a ratio with a lower bound is not zero
 some-ratio : (k : ℕ) {a b : ℕ} → 0 < b → b ≤ a * 16 ^ k → 0 < a
@@ -81,14 +76,12 @@ module _ (d : ℕ) (mask : Bool) (sign a b : ℕ) (hb : 0 < b) where
           let s : IsFraction d a b c (a * 16 ^ (64 + d) / (16 ^ c * b)) = record { least = f .0; most = f .1 } in
           subst⁻¹ P (cut c _ r h s) (within c _ r h s)
 
-      by-characteristic : (c : ℕ) → IsCharacteristic a b c → Trichotomy 127 c → P (resultOf d mask sign a b)
-      by-characteristic c r (less h) = subst⁻¹ P (overflows c r h) (large c r h)
-      by-characteristic c r (same e) = kept c r (le-of-eq (sym e))
-      by-characteristic c r (more h) = kept c r (le-of-lt h)
+      by-characteristic : (c : ℕ) → IsCharacteristic a b c → P (resultOf d mask sign a b)
+      by-characteristic c r = ⊎-elim (λ h. subst⁻¹ P (overflows c r h) (large c r h)) (kept c r) (below-or-not 127 c)
 
       some : 0 < a → P (resultOf d mask sign a b)
       some ha =
-          ⊎-elim (λ q. by-characteristic (q .0) (q .1) (trichotomy 127 (q .0))) (λ q. subst⁻¹ P (underflows (q .0) (q .1) (q .2)) (small (q .0) (q .1) (q .2)))
+          ⊎-elim (λ q. by-characteristic (q .0) (q .1)) (λ q. subst⁻¹ P (underflows (q .0) (q .1) (q .2)) (small (q .0) (q .1) (q .2)))
           (one-number d a b ha hb .some)
 
 pub exact-result : (d : ℕ) (mask : Bool) (sign a b : ℕ) → 0 < b → ExactResult d mask sign a b
