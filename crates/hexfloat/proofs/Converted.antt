@@ -1,5 +1,6 @@
 -- Laws of the conversions: a short number's magnitude times 65,536 is its fraction moved left or right, and a word over 65,536 has the digits of the word.
 use mathlib.Core.Path.{_≡_, refl, sym, ap, ap₂, _∙_}
+use mathlib.Core.Logic.{⊎-elim}
 use Prim.Native.Nat.{ℕ, zero, suc, _+_, _-_, _*_, _/_, _^_, _≤_, _<_}
 use native.Mathlib.Nat.{le-trans, le-of-eq, lt-of-lt-of-le, lt-of-le-of-lt, zero-mul, zero-div, one-mul, mul-assoc, mul-comm, mul-right-comm, mul-le-mul-right, mul-lt-mul-of-pos-right, mul-div-cancel, mul-div-mul-right, div-eq-of-lt}
 use native.Mathlib.Omega.{arith}
@@ -9,9 +10,10 @@ use Rattle.hexfloat.specs.declared.word.Parts.{Parts}
 use Rattle.hexfloat.specs.Answer.{gives, stops}
 use Rattle.hexfloat.specs.Word.{shortParts, magnitude}
 use Rattle.hexfloat.specs.Normal.{digits, characteristicOf, fractionOf, IsCharacteristic}
-use Rattle.hexfloat.specs.Condition.{conditionBy, signedCondition}
-use Rattle.hexfloat.specs.Convert.{fixedMagnitude, signedWord, toFixed}
+use Rattle.hexfloat.specs.Condition.{conditionBy}
+use Rattle.hexfloat.specs.Convert.{fixedMagnitude, signedWord, fixedCoded, wordMagnitude, toFixed}
 use Rattle.hexfloat.proofs.Digits.{pos, mono, digits-are}
+use Rattle.hexfloat.proofs.Keys.{below-or-not}
 use Rattle.hexfloat.proofs.Ratio.{characteristic-unique}
 
 module _ (p : Parts) where
@@ -50,12 +52,11 @@ pub overflows : (w : ℕ) → 2 ^ 31 + shortParts w .sign ≤ fixedMagnitude (sh
 unfolding toFixed
 overflows w h = rw (le-ltb (fixedMagnitude (shortParts w)) (2 ^ 31 + shortParts w .sign) h)
 
-pub fixed : (w : ℕ) → fixedMagnitude (shortParts w) < 2 ^ 31 + shortParts w .sign
-    → toFixed w ≡ gives (record { word = signedWord (shortParts w .sign) (fixedMagnitude (shortParts w)); condition = signedCondition (2 ^ 15) (signedWord (shortParts w .sign) (fixedMagnitude (shortParts w)) / 2 ^ 16) })
+pub fixed : (w : ℕ) → fixedMagnitude (shortParts w) < 2 ^ 31 + shortParts w .sign → toFixed w ≡ gives (fixedCoded (signedWord (shortParts w .sign) (fixedMagnitude (shortParts w))))
 unfolding toFixed
 fixed w h = rw (lt-ltb (fixedMagnitude (shortParts w)) (2 ^ 31 + shortParts w .sign) h)
 
-word-zero : (s : ℕ) → signedWord s 0 ≡ 0
+pub word-zero : (s : ℕ) → signedWord s 0 ≡ 0
 word-zero zero = refl
 word-zero (suc s) = rw (ne-eqb (suc s) 0 (λ e. omega arith))
 
@@ -64,8 +65,22 @@ unfolding conditionBy
 fixed-of-zero w e =
     let z : fixedMagnitude (shortParts w) ≡ 0 = fixed-zero (shortParts w) e in
     fixed w (lt-of-le-of-lt (le-of-eq z) (omega arith))
-    ∙ ap (λ (m : ℕ). gives (record { word = signedWord (shortParts w .sign) m; condition = signedCondition (2 ^ 15) (signedWord (shortParts w .sign) m / 2 ^ 16) })) z
-    ∙ ap (λ (m : ℕ). gives (record { word = m; condition = signedCondition (2 ^ 15) (m / 2 ^ 16) })) (word-zero (shortParts w .sign))
+    ∙ ap (λ (m : ℕ). gives (fixedCoded m)) (ap (signedWord (shortParts w .sign)) z ∙ word-zero (shortParts w .sign))
+
+-- the magnitude of a word
+module _ (w : ℕ) where
+  pub positive-word : w < 2 ^ 31 → wordMagnitude w ≡ w
+  positive-word l = rw (lt-ltb w (2 ^ 31) l)
+
+  pub negative-word : 2 ^ 31 ≤ w → wordMagnitude w ≡ 2 ^ 32 - w
+  negative-word l = rw (le-ltb w (2 ^ 31) l)
+
+  -- it is in the range of the word's sign, and the word has 32 bits unless it is zero
+  pub magnitude-within : wordMagnitude w < 2 ^ 31 + w / 2 ^ 31
+  magnitude-within = ⊎-elim (λ l. rw (positive-word l) (omega arith)) (λ l. rw (negative-word l) (omega arith)) (below-or-not w (2 ^ 31))
+
+  pub some-bits : 0 < wordMagnitude w → w < 2 ^ 32
+  some-bits h = ⊎-elim (λ l. omega arith) (λ l. let some : 0 < 2 ^ 32 - w = rw (negative-word l) at h in omega arith) (below-or-not w (2 ^ 31))
 
 module _ (m : ℕ) (h : 0 < m) where
   power : 16 ^ (60 + digits m) * 65536 ≡ 16 ^ digits m * 16 ^ 64
@@ -80,13 +95,18 @@ module _ (m : ℕ) (h : 0 < m) where
   pub characteristic : characteristicOf m 65536 ≡ 60 + digits m
   characteristic = characteristic-unique (pos 4) is
 
-  -- the first six digits: of m moved to eight, all but the last two
-  pub fraction : (z : ℕ) → z + digits m ≡ 8 → fractionOf 6 m 65536 ≡ m * 16 ^ z / 256
+  -- the first six digits ..
+  pub first-six : fractionOf 6 m 65536 ≡ m * 16 ^ 6 / 16 ^ digits m
   unfolding fractionOf
-  fraction z e =
+  first-six =
       ap (λ (c : ℕ). m * 16 ^ 70 / (16 ^ c * 65536)) characteristic
       ∙ ap₂ (λ (u v : ℕ). u / v) (sym (mul-assoc m (16 ^ 6) (16 ^ 64))) power
       ∙ mul-div-mul-right (m * 16 ^ 6) (16 ^ digits m) (pos 64)
+
+  -- .. are, of m moved to eight, all but the last two
+  pub fraction : (z : ℕ) → z + digits m ≡ 8 → fractionOf 6 m 65536 ≡ m * 16 ^ z / 256
+  fraction z e =
+      first-six
       ∙ sym (mul-div-mul-right (m * 16 ^ 6) (16 ^ digits m) (pos 2))
       ∙ ap₂ (λ (u v : ℕ). u / v) (mul-assoc m (16 ^ 6) (16 ^ 2) ∙ ap (λ (k : ℕ). m * k) (ap (λ (k : ℕ). 16 ^ k) (sym e) ∙ pow-add 16 z (digits m)) ∙ sym (mul-assoc m (16 ^ z) (16 ^ digits m))) (mul-comm (16 ^ digits m) (16 ^ 2))
       ∙ mul-div-mul-right (m * 16 ^ z) (16 ^ 2) (pos (digits m))

@@ -6,13 +6,14 @@ use Rattle.hexfloat.specs.Normal.{digits, digitsIn, characteristicOf, fr
 use Rattle.hexfloat.specs.Condition.{conditionBy}
 use Rattle.hexfloat.specs.Compare.{comparedWords, compared, comparedAligned}
 use Rattle.hexfloat.specs.Convert.{toFixed, toFloat, floatParts, fixedMagnitude}
+use Rattle.hexfloat.specs.RoundTrip.{cutTo, homed}
 use Rattle.hexfloat.specs.Divide.{quotientWords, quotient}
 use Rattle.hexfloat.specs.Result.{resultOf}
 use Rattle.hexfloat.specs.Word.{magnitude}
 use Rattle.hexfloat.specs.Add.{addendOf, input, signed, intermediateSum, resultOfSum, sum, summed, summedWords}
 use Rattle.hexfloat.specs.Multiply.{product, productWords}
 use Rattle.hexfloat.specs.Theorems.{withoutLowByLow, shortenedProduct}
-use Rattle.hexfloat.specs.Edges.{StarredEdges, CompareEdges, WithoutPremise, SumEdges, ProductEdges}
+use Rattle.hexfloat.specs.Edges.{StarredEdges, CompareEdges, RoundTripEdges, WithoutPremise, SumEdges, ProductEdges}
 
 pub starred-edges : StarredEdges
 unfolding toFloat floatParts conditionBy toFixed fixedMagnitude quotientWords quotient resultOf comparedWords compared comparedAligned commonCharacteristic aligned magnitude characteristicOf fractionOf digits digitsIn
@@ -43,6 +44,10 @@ compare-edges = record {
   short-exact = refl;
   short-zero = refl;
 }
+
+pub round-trip-edges : RoundTripEdges
+unfolding homed cutTo digits digitsIn
+round-trip-edges = record { zero = refl; six-digits = refl; seventh-digit = refl; most = refl; least = refl; negative = refl }
 
 pub without-premise : WithoutPremise
 unfolding comparedWords compared comparedAligned commonCharacteristic aligned magnitude conditionBy

@@ -1,9 +1,10 @@
 -- Words have parts in range, and so have the fraction of a ratio and a converted word.
 use mathlib.Core.Path.{_≡_, refl, subst⁻¹}
+use mathlib.Core.Logic.{⊎-elim}
 use Prim.Native.Nat.{ℕ, _+_, _*_, _^_, _≤_, _<_}
-use native.Mathlib.Nat.{ne-of-gt, le-of-eq, lt-of-lt-of-le, lt-of-le-of-lt, mul-assoc, mul-lt-mul-of-pos-right, mul-comm, lt-of-mul-lt-mul-right}
+use native.Mathlib.Nat.{eq-zero-or-pos, ne-of-gt, le-of-eq, lt-of-lt-of-le, lt-of-le-of-lt, mul-assoc, mul-lt-mul-of-pos-right, mul-comm, lt-of-mul-lt-mul-right}
 use native.Mathlib.Omega.{arith}
-use borrow.Author.Tests.{lt-ltb, le-ltb, eq-eqb, ne-eqb}
+use borrow.Author.Tests.{eq-eqb, ne-eqb}
 use lib.Pow.{pow-add}
 use Rattle.hexfloat.specs.declared.addition.Sense.{Sense}
 use Rattle.hexfloat.specs.declared.word.Parts.{Parts}
@@ -16,8 +17,7 @@ use Rattle.hexfloat.specs.Normal.{IsCharacteristic, IsFraction}
 use Rattle.hexfloat.specs.Convert.{wordMagnitude, floatParts}
 use Rattle.hexfloat.specs.Operand.{Operand, Operands, Alignable}
 use Rattle.hexfloat.proofs.Digits.{pos, mono, digits-le}
-use Rattle.hexfloat.proofs.Converted.{is as float-is, characteristic as float-characteristic}
-use Rattle.hexfloat.proofs.Keys.{Trichotomy, less, same, more, trichotomy}
+use Rattle.hexfloat.proofs.Converted.{magnitude-within, is as float-is, characteristic as float-characteristic}
 use Rattle.hexfloat.proofs.Ratio.{fraction-is}
 
 pub short-fits : (w : ℕ) → w < 2 ^ 32 → Operand 6 (shortParts w)
@@ -76,25 +76,18 @@ fraction-most {d} {a} {b} {c} {f} r s =
     split : (d : ℕ) → a * 16 ^ (64 + d) ≡ a * 16 ^ 64 * 16 ^ d
     split d = rw (pow-add 16 64 d, mul-assoc a (16 ^ 64) (16 ^ d))
 
-magnitude-most : (w : ℕ) → w < 2 ^ 32 → wordMagnitude w < 16 ^ 8
-magnitude-most w h = go (trichotomy w (2 ^ 31))
-  where
-    go : Trichotomy w (2 ^ 31) → wordMagnitude w < 16 ^ 8
-    go (less l) = rw (lt-ltb w (2 ^ 31) l) h
-    go (same e) = rw (le-ltb w (2 ^ 31) (omega arith)) (omega arith)
-    go (more l) = rw (le-ltb w (2 ^ 31) (omega arith)) (omega arith)
-
 pub float-fits : (w : ℕ) → w < 2 ^ 32 → Operand 6 (floatParts w)
 unfolding floatParts
-float-fits w h = go (trichotomy (wordMagnitude w) 0)
+float-fits w h = ⊎-elim none some (eq-zero-or-pos (wordMagnitude w))
   where
     few : wordMagnitude w < 16 ^ 8
-    few = magnitude-most w h
+    few = omega (arith, magnitude-within w)
 
-    go : Trichotomy (wordMagnitude w) 0 → Operand 6 (floatParts w)
-    go (less l) = let no : ⊥ = omega arith in absurd no
-    go (same e) = rw (eq-eqb (wordMagnitude w) 0 e) (record { some = omega arith; most = omega arith; sign = omega arith; characteristic = omega arith; fraction = pos 6 })
-    go (more l) =
+    none : wordMagnitude w ≡ 0 → Operand 6 (floatParts w)
+    none e = rw (eq-eqb (wordMagnitude w) 0 e) (record { some = omega arith; most = omega arith; sign = omega arith; characteristic = omega arith; fraction = pos 6 })
+
+    some : 0 < wordMagnitude w → Operand 6 (floatParts w)
+    some l =
         rw (ne-eqb (wordMagnitude w) 0 (ne-of-gt l))
         (record {
           some = omega arith;

@@ -5,6 +5,7 @@ pub mod Answers
 pub mod Compared
 pub mod Conditions
 pub mod Converted
+pub mod Cut
 pub mod Digits
 pub mod Divided
 pub mod Edges
@@ -17,6 +18,7 @@ pub mod Placed
 pub mod Products
 pub mod Ratio
 pub mod Results
+pub mod RoundTrip
 pub mod Scaled
 pub mod Shortened
 pub mod Signs

@@ -24,13 +24,16 @@ fixedMagnitude p = magnitude 6 p / 16 ^ 74
 abbrev pub signedWord : ℕ → ℕ → ℕ
 signedWord s m = cond (eqb s 0) m ((2 ^ 32 - m) % 2 ^ 32)
 
--- 8.13: the word, with the condition code of its signed upper halfword, where it is in the range of a signed word
+-- 8.13: a word, with the condition code of its signed upper halfword
+abbrev pub fixedCoded : ℕ → Coded
+fixedCoded w = record { word = w; condition = signedCondition (2 ^ 15) (w / 2 ^ 16) }
+
+-- 8.13: the word, where it is in the range of a signed word
 unfoldable pub toFixed : ℕ → Answer Coded
 toFixed w =
     let p = shortParts w in
     let m = fixedMagnitude p in
-    let word = signedWord (p .sign) m in
-    cond (ltb m (2 ^ 31 + p .sign)) (gives (record { word = word; condition = signedCondition (2 ^ 15) (word / 2 ^ 16) })) (stops 11)
+    cond (ltb m (2 ^ 31 + p .sign)) (gives (fixedCoded (signedWord (p .sign) m))) (stops 11)
 
 -- the magnitude of a signed word
 abbrev pub wordMagnitude : ℕ → ℕ

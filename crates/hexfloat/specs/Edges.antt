@@ -8,6 +8,7 @@ use Rattle.hexfloat.specs.Answer.{gives, stops}
 use Rattle.hexfloat.specs.Word.{shortWords, longWords, longParts}
 use Rattle.hexfloat.specs.Compare.{compared, comparedWords}
 use Rattle.hexfloat.specs.Convert.{toFixed, toFloat}
+use Rattle.hexfloat.specs.RoundTrip.{homed}
 use Rattle.hexfloat.specs.Divide.{quotientWords}
 use Rattle.hexfloat.specs.Add.{summedWords}
 use Rattle.hexfloat.specs.Multiply.{productWords}
@@ -38,6 +39,16 @@ pub record CompareEdges : Type 0 where
   pub third-example : comparedWords Long (longWords 0x40100000 0x00001234) (longWords 0x3FFFFFFF 0xF8012340) ≡ 1
   pub short-exact : comparedWords Short (shortWords 0x42000001) (shortWords 0x4000010F) ≡ 3
   pub short-zero : comparedWords Short (shortWords 0x7F000000) (shortWords 0x41100000) ≡ 3
+
+-- Words through float and home again (document 02, Job 9): six digits come home, later ones only where they are zero; of a negative word the magnitude is
+-- cut.
+pub record RoundTripEdges : Type 0 where
+  pub zero : homed 0 ≡ 0
+  pub six-digits : homed 0x00FFFFFF ≡ 0x00FFFFFF
+  pub seventh-digit : homed 0x01000001 ≡ 0x01000000
+  pub most : homed 0x7FFFFFFF ≡ 0x7FFFFF00
+  pub least : homed 0x80000000 ≡ 0x80000000
+  pub negative : homed 0xFEFFFFFF ≡ 0xFF000000
 
 -- long operands that are equal after alignment and not by exact order, the second of which is normalised
 pub record RulesDiffer (a b : Words) : Type 0 where

@@ -5,6 +5,7 @@ pub mod Condition
 pub mod Align
 pub mod Compare
 pub mod Convert
+pub mod RoundTrip
 pub mod Result
 pub mod Divide
 pub mod Multiply

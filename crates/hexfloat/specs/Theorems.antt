@@ -17,7 +17,8 @@ use Rattle.hexfloat.specs.Align.{commonCharacteristic, aligned, IsAligne
 use Rattle.hexfloat.specs.Condition.{IsCondition, operandCondition, generalCondition}
 use Rattle.hexfloat.specs.Compare.{above, below, compared, comparedAligned, comparedWords}
 use Rattle.hexfloat.specs.Normal.{IsCharacteristic, IsFraction, IsBelowZero}
-use Rattle.hexfloat.specs.Convert.{fixedMagnitude, wordMagnitude, floatParts, toFixed, toFloat}
+use Rattle.hexfloat.specs.Convert.{fixedMagnitude, wordMagnitude, floatParts, fixedCoded, toFixed, toFloat}
+use Rattle.hexfloat.specs.RoundTrip.{cutTo, ZerosAfter, homed}
 use Rattle.hexfloat.specs.Result.{signByAlgebra, resultOf, underflow}
 use Rattle.hexfloat.specs.Divide.{quotient, quotientWords}
 use Rattle.hexfloat.specs.Multiply.{product, productWords}
@@ -199,6 +200,17 @@ pub record ExactFloat (w : ℕ) : Type 0 where
   pub fraction : 0 < wordMagnitude w → IsFraction 6 (wordMagnitude w) 65536 (floatParts w .characteristic) (floatParts w .fraction)
   pub only : 0 < wordMagnitude w → (c f : ℕ) → IsCharacteristic (wordMagnitude w) 65536 c → IsFraction 6 (wordMagnitude w) 65536 c f
       → floatParts w ≡ record { sign = w / 2 ^ 31; characteristic = c; fraction = f }
+
+-- Document 02, Job 9: what CVFL gives for a word, CVFX turns back without a stop into the word with its magnitude cut to six digits, with the condition
+-- code of its upper halfword. A word of 32 bits keeps its sign; it comes home unaltered exactly if the digits after those six are zero; and what came home
+-- once comes home unaltered.
+pub record RoundTrip (w : ℕ) : Type 0 where
+  pub home : toFixed (toFloat w .word) ≡ gives (fixedCoded (homed w))
+  pub sign : w < 2 ^ 32 → homed w / 2 ^ 31 ≡ w / 2 ^ 31
+  pub cut : w < 2 ^ 32 → wordMagnitude (homed w) ≡ cutTo 6 (wordMagnitude w)
+  pub unaltered : w < 2 ^ 32 → ZerosAfter 6 (wordMagnitude w) → homed w ≡ w
+  pub unaltered-only : w < 2 ^ 32 → homed w ≡ w → ZerosAfter 6 (wordMagnitude w)
+  pub again : w < 2 ^ 32 → homed (homed w) ≡ homed w
 
 -- 8.7: every condition that an order sets is 0, 1 or 3.
 pub record ConditionsSet : Type 0 where
