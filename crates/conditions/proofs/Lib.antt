@@ -12,6 +12,7 @@ pub mod Records
 pub mod Repeats
 pub mod Restore
 pub mod Return
+pub mod RoundTrip
 pub mod Same
 pub mod Sets
 pub mod Theorems

@@ -8,6 +8,7 @@ use Rattle.conditions.proofs.Packed.{same-over, as-before}
 use Rattle.conditions.proofs.Protected.{protected-keeps}
 use Rattle.conditions.proofs.Records.{read-by-form}
 use Rattle.conditions.proofs.Return.{back-and-forth, refused-at-start}
+use Rattle.conditions.proofs.RoundTrip.{round-trip}
 use Rattle.conditions.proofs.Sets.{one-set}
 use Rattle.conditions.proofs.Trail.{as-trail, included}
 use Rattle.conditions.proofs.Unindexed.{unindexed}
@@ -30,4 +31,5 @@ theorems = record {
   absent-above = absent-above;
   unindexed = λ d p x none. unindexed d p none x;
   one-set = one-set;
+  round-trip = round-trip;
 }

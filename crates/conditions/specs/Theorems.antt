@@ -6,10 +6,13 @@ use mathlib.Core.List.{List, [], _∷_, _++_}
 use mathlib.Core.Bool.{true}
 use lib.ListN.{length, getD, replicate}
 use Rattle.hexfloat.specs.Answer.{gives}
+use Rattle.hexfloat.specs.Convert.{fixedCoded}
+use Rattle.hexfloat.specs.RoundTrip.{homed}
 use Rattle.orders.specs.declared.order.Operation.{Operation}
+use Rattle.orders.specs.declared.order.Order.{Order}
 use Rattle.orders.specs.declared.order.Place.{Place}
 use Rattle.orders.specs.General.{generalAt}
-use Rattle.orders.specs.Order.{legalOf}
+use Rattle.orders.specs.Order.{orderAt, legalOf}
 use Rattle.protection.specs.Form.{ProtectList, isProtected}
 use Rattle.protection.specs.Bits.{bitForm, bitwise}
 use Rattle.protection.specs.Bytes.{byteForm, bytewise, unpacked}
@@ -167,6 +170,36 @@ pub record OneSetAfter (d : List ℕ) (x : Machine) (g : Registers) : Type 0 whe
 abbrev pub OneSet : List ℕ → ProtectList → Machine → Type 0
 OneSet d p x = OneSetAfter d x (stepped d p x .after .state .registers)
 
+-- what the registers' types say: there are eight float registers, and two sets of eight general ones
+pub record TypedRegisters (g : Registers) : Type 0 where
+  pub float : length (g .float) ≡ 8
+  pub general : length (g .general) ≡ 16
+
+-- general register r of the selected set
+abbrev pub generalOf : Machine → ℕ → ℕ
+generalOf x r = generalAt (x .state .registers .general) (x .state .registers .status .selector) r
+
+-- the orders CVFX r1 r2 and CVFL r1 r2
+abbrev pub cvfx : ℕ → ℕ → Order
+cvfx r1 r2 = record { code = 9; r1 = r1; r2 = r2; at = 0 }
+
+abbrev pub cvfl : ℕ → ℕ → Order
+cvfl r1 r2 = record { code = 10; r1 = r1; r2 = r2; at = 0 }
+
+abbrev pub Not6To11 : ℕ → Type 0
+Not6To11 n = 6 ≤ n → n ≤ 11 → ⊥
+
+-- Through float and home again (document 02, Job 9), where y stands after the first of two steps from x, and z after both: neither is stopped by 6 to 11;
+-- where both are taken, general register g of the selected set holds `homed` of what r2 of it held before, with the condition code of its upper halfword.
+pub record RoundTripBy (d : List ℕ) (p : ProtectList) (x y z : Machine) (r2 g : ℕ) : Type 0 where
+  pub first : Not6To11 (stepped d p x .stop)
+  pub second : Not6To11 (stepped d p y .stop)
+  pub home : stepped d p x .stop ≡ 0 → stepped d p y .stop ≡ 0 → generalOf z g ≡ homed (generalOf x r2)
+  pub condition : stepped d p x .stop ≡ 0 → stepped d p y .stop ≡ 0 → z .state .registers .status .condition ≡ fixedCoded (homed (generalOf x r2)) .condition
+
+abbrev pub RoundTrip : List ℕ → ProtectList → Machine → ℕ → ℕ → Type 0
+RoundTrip d p x r2 g = RoundTripBy d p x (times d p 1 step x) (times d p 2 step x) r2 g
+
 pub record Theorems : Type 0 where
   pub as-trail : (d : List ℕ) (p : ProtectList) (x : Machine) (cs : List Call) → Typed (x .memory) → Included d p x cs → AsTrail d p x cs
   -- the start alone decides: unless a back step there is the call that is left out, every list is included
@@ -193,3 +226,7 @@ pub record Theorems : Type 0 where
   -- Over a deck in which r2 is 0 in every order with a storage operand all is as it was before
   pub unindexed : (d : List ℕ) (p : ProtectList) (x : Machine) → NoIndexIn d → SameCalls (called d p) (unindexedCalled d p) x
   pub one-set : (d : List ℕ) (p : ProtectList) (x : Machine) → OneSet d p x
+  -- CVFL at the pointer, and at the next order CVFX of the float register that it writes; a first step that is not taken is tried again
+  pub round-trip :
+      (d : List ℕ) (p : ProtectList) (x : Machine) (r1 r2 g : ℕ) → TypedRegisters (x .state .registers) → nextOrder d x ≡ cvfl r1 r2 →
+      orderAt d (x .state .registers .status .pointer + 1) ≡ cvfx g r1 → RoundTrip d p x r2 g
