@@ -131,7 +131,7 @@ module _ (d : List ℕ) (p : ProtectList) where
     free = refl;
     effect =
         ap (λ (o : Order). effectOf (onFloat Verb.Fix Width.Short) o (y .state .registers) (y .memory) (addressIn o (y .state .registers))) order
-        ∙ ap (mapped (fixedInto (y .state .registers .status) g)) (ap toFixed float ∙ word-trip w .home);
+        ∙ ap (mapped (fixedInto (y .state .registers .status) g)) (ap toFixed float ∙ word-trip w .returns);
   }
 
   -- both, from x on
@@ -171,9 +171,9 @@ module _ (d : List ℕ) (p : ProtectList) where
         both-taken : stepped d p (stepped d p x .after) .after ≡ fixed
         both-taken = ap (λ (y : Machine). stepped d p y .after) (first-taken .after) ∙ second-taken .after
 
-        home : generalOf fixed g ≡ homed word
+        returned : generalOf fixed g ≡ homed word
         unfolding generalAfter
-        home =
+        returned =
             let s = x .state .registers .status .selector in
             let set : s ≤ 1 = second-taken .fine .selector in
             let few : g ≤ 7 = registered-general refl (second-taken .fine .registers) in
@@ -192,6 +192,6 @@ module _ (d : List ℕ) (p : ProtectList) where
     round-trip = record {
       first = step-by x floating (floats x r1 r2 first);
       second = second-by (eqb (stepped d p x .stop) 0) refl;
-      home = λ t u. ap (λ (y : Machine). generalOf y g) (both-taken t u) ∙ home t u;
+      returns = λ t u. ap (λ (y : Machine). generalOf y g) (both-taken t u) ∙ returned t u;
       condition = λ t u. ap (λ (y : Machine). y .state .registers .status .condition) (both-taken t u);
     }

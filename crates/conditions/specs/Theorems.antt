@@ -189,12 +189,12 @@ cvfl r1 r2 = record { code = 10; r1 = r1; r2 = r2; at = 0 }
 abbrev pub Not6To11 : ℕ → Type 0
 Not6To11 n = 6 ≤ n → n ≤ 11 → ⊥
 
--- Through float and home again (document 02, Job 9), where y stands after the first of two steps from x, and z after both: neither is stopped by 6 to 11;
+-- A word to float and back (document 02, Job 9), where y stands after the first of two steps from x, and z after both: neither is stopped by 6 to 11;
 -- where both are taken, general register g of the selected set holds `homed` of what r2 of it held before, with the condition code of its upper halfword.
 pub record RoundTripBy (d : List ℕ) (p : ProtectList) (x y z : Machine) (r2 g : ℕ) : Type 0 where
   pub first : Not6To11 (stepped d p x .stop)
   pub second : Not6To11 (stepped d p y .stop)
-  pub home : stepped d p x .stop ≡ 0 → stepped d p y .stop ≡ 0 → generalOf z g ≡ homed (generalOf x r2)
+  pub returns : stepped d p x .stop ≡ 0 → stepped d p y .stop ≡ 0 → generalOf z g ≡ homed (generalOf x r2)
   pub condition : stepped d p x .stop ≡ 0 → stepped d p y .stop ≡ 0 → z .state .registers .status .condition ≡ fixedCoded (homed (generalOf x r2)) .condition
 
 abbrev pub RoundTrip : List ℕ → ProtectList → Machine → ℕ → ℕ → Type 0

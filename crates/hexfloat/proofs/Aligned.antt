@@ -10,8 +10,8 @@ use Rattle.hexfloat.specs.declared.word.Parts.{Parts}
 use Rattle.hexfloat.specs.Align.{commonCharacteristic, aligned, IsAligned}
 use Rattle.hexfloat.specs.Word.{magnitude}
 use Rattle.hexfloat.proofs.Digits.{pos}
-use Rattle.hexfloat.proofs.Keys.{below-or-not}
 use Rattle.hexfloat.proofs.Ratio.{cut-is, cut-unique}
+use Rattle.hexfloat.proofs.Trichotomy.{below-or-not}
 
 -- the common characteristic is the larger of the two
 module _ (x y : Parts) where

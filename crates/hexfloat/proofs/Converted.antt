@@ -13,8 +13,8 @@ use Rattle.hexfloat.specs.Normal.{digits, characteristicOf, fractionOf, 
 use Rattle.hexfloat.specs.Condition.{conditionBy}
 use Rattle.hexfloat.specs.Convert.{fixedMagnitude, signedWord, fixedCoded, wordMagnitude, toFixed}
 use Rattle.hexfloat.proofs.Digits.{pos, mono, digits-are}
-use Rattle.hexfloat.proofs.Keys.{below-or-not}
 use Rattle.hexfloat.proofs.Ratio.{characteristic-unique}
+use Rattle.hexfloat.proofs.Trichotomy.{below-or-not}
 
 module _ (p : Parts) where
   pub fixed-left : 66 ≤ p .characteristic → fixedMagnitude p ≡ p .fraction * 16 ^ (p .characteristic - 66)

@@ -8,7 +8,7 @@ use lib.Pow.{pow-add}
 use Rattle.hexfloat.specs.Normal.{digits}
 use Rattle.hexfloat.specs.RoundTrip.{cutTo, ZerosAfter}
 use Rattle.hexfloat.proofs.Digits.{pos, digits-are, digits-unique, digits-positive, digits-zero}
-use Rattle.hexfloat.proofs.Keys.{below-or-not}
+use Rattle.hexfloat.proofs.Trichotomy.{below-or-not}
 
 -- the last k digits of n are zeros if each of them is 0 ..
 whole : (k n : ℕ) → ((i : ℕ) → i < k → n / 16 ^ i % 16 ≡ 0) → n / 16 ^ k * 16 ^ k ≡ n

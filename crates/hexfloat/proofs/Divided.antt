@@ -14,9 +14,9 @@ use Rattle.hexfloat.specs.Word.{digitsOf, partsOf, wordsOf, magnitude}
 use Rattle.hexfloat.specs.Divide.{quotient, quotientWords}
 use Rattle.hexfloat.specs.Operand.{Operand, IsPlaced, normalised, leadOf}
 use Rattle.hexfloat.proofs.Digits.{pos}
-use Rattle.hexfloat.proofs.Keys.{below-or-not}
 use Rattle.hexfloat.proofs.Normalised.{Bounds, bounds}
 use Rattle.hexfloat.proofs.Placed.{placed}
+use Rattle.hexfloat.proofs.Trichotomy.{below-or-not}
 
 -- a lead is 0 or 1, as the fractions stand to each other
 lead-cases : (a b : ℕ) → ((leadOf a b ≡ 0) × (a < b)) ⊎ ((leadOf a b ≡ 1) × (b ≤ a))

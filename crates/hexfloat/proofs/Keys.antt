@@ -1,7 +1,7 @@
 -- The key of an operand ranks as its exact magnitude does.
 use mathlib.Core.Path.{_≡_, sym, ap, ap₂, _∙_}
 use mathlib.Core.Logic.{_⊎_, inl, inr, ⊎-elim}
-use Prim.Native.Nat.{ℕ, _+_, _-_, _*_, _^_, _≤_, _<_}
+use Prim.Native.Nat.{ℕ, _+_, _*_, _^_, _<_}
 use native.Mathlib.Nat.{le-refl, le-of-lt, le-add-right, not-le-of-lt, add-lt-add-of-le-of-lt, suc-mul, le-trans, le-of-eq, lt-of-lt-of-le, lt-of-le-of-lt, eq-zero-or-pos, eq-of-mul-eq-mul-right, lt-of-mul-lt-mul-right, mul-lt-mul-of-pos-right, mul-le-mul-left, mul-le-mul-right, mul-assoc, pow-succ'}
 use native.Mathlib.Omega.{arith}
 use borrow.Author.Tests.{lt-ltb, le-ltb, eq-eqb, ne-eqb}
@@ -12,17 +12,7 @@ use Rattle.hexfloat.specs.Compare.{rankCondition}
 use Rattle.hexfloat.specs.Operand.{Operand, normalised, magnitudeKey}
 use Rattle.hexfloat.proofs.Digits.{pos, mono}
 use Rattle.hexfloat.proofs.Normalised.{normal-most, normal-least, normal-exact, magnitude-positive, magnitude-zero}
-
-pub below-or-not : (a b : ℕ) → (a < b) ⊎ (b ≤ a)
-below-or-not a b = ⊎-elim (λ e. inr (omega arith)) (λ p. inl (omega arith)) (eq-zero-or-pos (b - a))
-
-pub data Trichotomy (a b : ℕ) : Type 0 where
-  less : a < b → Trichotomy a b
-  same : a ≡ b → Trichotomy a b
-  more : b < a → Trichotomy a b
-
-pub trichotomy : (a b : ℕ) → Trichotomy a b
-trichotomy a b = ⊎-elim (λ e. ⊎-elim (λ f. same (omega arith)) (λ p. more (omega arith)) (eq-zero-or-pos (a - b))) (λ p. less (omega arith)) (eq-zero-or-pos (b - a))
+use Rattle.hexfloat.proofs.Trichotomy.{Trichotomy, less, same, more, trichotomy}
 
 -- how two numbers stand gives their condition
 module _ (x y : ℕ) where

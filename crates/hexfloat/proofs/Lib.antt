@@ -24,5 +24,6 @@ pub mod Shortened
 pub mod Signs
 pub mod Sums
 pub mod Theorems
+pub mod Trichotomy
 pub mod Turns
 pub mod Wholes

@@ -15,8 +15,9 @@ use Rattle.hexfloat.specs.Word.{partsOf, longParts, magnitude}
 use Rattle.hexfloat.proofs.Aligned.{common-first, common-second, common-left, common-right, common-swapped, aligned-level, aligned-some, aligned-kept, aligned-mono}
 use Rattle.hexfloat.proofs.Compared.{alike-rank, by-signs}
 use Rattle.hexfloat.proofs.Digits.{pos, mono}
-use Rattle.hexfloat.proofs.Keys.{Trichotomy, less, same, more, trichotomy, ranks-below, ranks-level, ranks-above, level-or-same}
+use Rattle.hexfloat.proofs.Keys.{ranks-below, ranks-level, ranks-above, level-or-same}
 use Rattle.hexfloat.proofs.Sums.{exact-alignment}
+use Rattle.hexfloat.proofs.Trichotomy.{Trichotomy, less, same, more, trichotomy}
 
 -- a normalised number has d digits, and one that has a characteristic is not zero
 normalised-most : (d : ℕ) (p : Parts) → ZeroOrNormalised d p → p .fraction < 16 ^ d

@@ -1,4 +1,4 @@
--- A word through float and home again: CVFX of what CVFL gives has the word's first six digits and its sign.
+-- A word to float and back: CVFX of what CVFL gives has the word's first six digits and its sign.
 use mathlib.Core.Path.{_≡_, refl, sym, ap, ap₂, _∙_, subst}
 use mathlib.Core.Logic.{⊎-elim}
 use Prim.Native.Nat.{ℕ, _+_, _-_, _*_, _/_, _%_, _^_, _≤_, _<_}
@@ -19,7 +19,7 @@ use Rattle.hexfloat.proofs.Converted.{fixed-left, fixed-right, fixed, f
 use Rattle.hexfloat.proofs.Cut.{cut-le, cut-none, cut-positive, cut-again, cut-nothing, cut-nothing-only}
 use Rattle.hexfloat.proofs.Digits.{pos, digits-zero}
 use Rattle.hexfloat.proofs.Fits.{float-fits}
-use Rattle.hexfloat.proofs.Keys.{below-or-not}
+use Rattle.hexfloat.proofs.Trichotomy.{below-or-not}
 
 -- a short word of given parts has them
 parts-again : {p : Parts} → Operand 6 p → shortParts (shortWord p) ≡ p
@@ -44,9 +44,9 @@ module _ (m : ℕ) (h : 0 < m) (p : Parts) (place : p .characteristic ≡ charac
   there = place ∙ characteristic m h
 
   -- comes back as these digits
-  home-magnitude : fixedMagnitude p ≡ cutTo 6 m
+  six-digits : fixedMagnitude p ≡ cutTo 6 m
   unfolding cutTo
-  home-magnitude = ⊎-elim many few (below-or-not 6 (digits m))
+  six-digits = ⊎-elim many few (below-or-not 6 (digits m))
     where
       few : digits m ≤ 6 → fixedMagnitude p ≡ cutTo 6 m
       few l =
@@ -68,22 +68,22 @@ module _ (m : ℕ) (h : 0 < m) (p : Parts) (place : p .characteristic ≡ charac
           k
 
 module _ (w : ℕ) where
-  -- zero comes home as zero
-  none-home : wordMagnitude w ≡ 0 → toFixed (toFloat w .word) ≡ gives (fixedCoded (homed w))
+  -- zero comes back as zero
+  returns-none : wordMagnitude w ≡ 0 → toFixed (toFloat w .word) ≡ gives (fixedCoded (homed w))
   unfolding toFloat floatParts homed conditionBy
-  none-home e =
+  returns-none e =
       let cut : cutTo 6 (wordMagnitude w) ≡ 0 = cut-none 6 (wordMagnitude w) (rw (e, digits-zero) (omega arith)) ∙ e in
-      let home : signedWord (w / 2 ^ 31) (cutTo 6 (wordMagnitude w)) ≡ 0 = ap (signedWord (w / 2 ^ 31)) cut ∙ word-zero (w / 2 ^ 31) in
-      rw (eq-eqb (wordMagnitude w) 0 e, home) (fixed-of-zero 0 refl)
+      let back : signedWord (w / 2 ^ 31) (cutTo 6 (wordMagnitude w)) ≡ 0 = ap (signedWord (w / 2 ^ 31)) cut ∙ word-zero (w / 2 ^ 31) in
+      rw (eq-eqb (wordMagnitude w) 0 e, back) (fixed-of-zero 0 refl)
 
   -- any other word by its first six digits
-  some-home : 0 < wordMagnitude w → toFixed (toFloat w .word) ≡ gives (fixedCoded (homed w))
+  returns-some : 0 < wordMagnitude w → toFixed (toFloat w .word) ≡ gives (fixedCoded (homed w))
   unfolding toFloat floatParts homed
-  some-home h =
+  returns-some h =
       let m = wordMagnitude w in
       let p : Parts = record { sign = w / 2 ^ 31; characteristic = characteristicOf m 65536; fraction = fractionOf 6 m 65536 } in
       let e : floatParts w ≡ p = rw (ne-eqb m 0 (ne-of-gt h)) in
-      let cut : fixedMagnitude p ≡ cutTo 6 m = home-magnitude m h p refl refl in
+      let cut : fixedMagnitude p ≡ cutTo 6 m = six-digits m h p refl refl in
       rw e
       (fixed-parts (shortWord p) p (parts-again (subst (Operand 6) e (float-fits w (some-bits w h)))) (lt-of-le-of-lt (le-trans (le-of-eq cut) (cut-le 6 m)) (magnitude-within w))
       ∙ ap (λ (c : ℕ). gives (fixedCoded (signedWord (w / 2 ^ 31) c))) cut)
@@ -94,38 +94,38 @@ module _ (w : ℕ) where
   sign-negative : 2 ^ 31 ≤ w → w < 2 ^ 32 → w / 2 ^ 31 ≡ 1
   sign-negative l u = omega arith
 
-  -- what comes home, by the half that the word is in
-  home-positive : w < 2 ^ 31 → homed w ≡ cutTo 6 w
+  -- what comes back, by the half that the word is in
+  homed-positive : w < 2 ^ 31 → homed w ≡ cutTo 6 w
   unfolding homed
-  home-positive l = rw (positive-word w l, sign-positive l)
+  homed-positive l = rw (positive-word w l, sign-positive l)
 
   module _ (l : 2 ^ 31 ≤ w) (u : w < 2 ^ 32) where
-    home-negative : homed w ≡ 2 ^ 32 - cutTo 6 (2 ^ 32 - w)
+    homed-negative : homed w ≡ 2 ^ 32 - cutTo 6 (2 ^ 32 - w)
     unfolding homed
-    home-negative = rw (negative-word w l, sign-negative l u) (in-range (cutTo 6 (2 ^ 32 - w)) (cut-positive 6 (2 ^ 32 - w) (omega arith) (omega arith)))
+    homed-negative = rw (negative-word w l, sign-negative l u) (in-range (cutTo 6 (2 ^ 32 - w)) (cut-positive 6 (2 ^ 32 - w) (omega arith) (omega arith)))
       where
         in-range : (c : ℕ) → 0 < c → (2 ^ 32 - c) % 2 ^ 32 ≡ 2 ^ 32 - c
         in-range c p = omega arith
 
     negative-sign : homed w / 2 ^ 31 ≡ w / 2 ^ 31
     negative-sign =
-        rw home-negative (omega (arith, cut-le 6 (2 ^ 32 - w), cut-positive 6 (2 ^ 32 - w) (omega arith) (omega arith)))
+        rw homed-negative (omega (arith, cut-le 6 (2 ^ 32 - w), cut-positive 6 (2 ^ 32 - w) (omega arith) (omega arith)))
 
     negative-cut : wordMagnitude (homed w) ≡ cutTo 6 (wordMagnitude w)
     negative-cut =
         let c = cutTo 6 (2 ^ 32 - w) in
-        rw (negative-word w l, home-negative, negative-word (2 ^ 32 - c) (omega (arith, cut-le 6 (2 ^ 32 - w))))
+        rw (negative-word w l, homed-negative, negative-word (2 ^ 32 - c) (omega (arith, cut-le 6 (2 ^ 32 - w))))
         (back c (omega (arith, cut-le 6 (2 ^ 32 - w))))
       where
         back : (c : ℕ) → c ≤ 2 ^ 32 → 2 ^ 32 - (2 ^ 32 - c) ≡ c
         back c p = omega arith
 
-  home-sign : w < 2 ^ 32 → homed w / 2 ^ 31 ≡ w / 2 ^ 31
-  home-sign u = ⊎-elim (λ l. rw (home-positive l) (omega (arith, cut-le 6 w))) (λ l. negative-sign l u) (below-or-not w (2 ^ 31))
+  homed-sign : w < 2 ^ 32 → homed w / 2 ^ 31 ≡ w / 2 ^ 31
+  homed-sign u = ⊎-elim (λ l. rw (homed-positive l) (omega (arith, cut-le 6 w))) (λ l. negative-sign l u) (below-or-not w (2 ^ 31))
 
-  home-cut : w < 2 ^ 32 → wordMagnitude (homed w) ≡ cutTo 6 (wordMagnitude w)
-  home-cut u =
-      ⊎-elim (λ l. rw (positive-word w l, home-positive l, positive-word (cutTo 6 w) (lt-of-le-of-lt (cut-le 6 w) l))) (λ l. negative-cut l u)
+  homed-cut : w < 2 ^ 32 → wordMagnitude (homed w) ≡ cutTo 6 (wordMagnitude w)
+  homed-cut u =
+      ⊎-elim (λ l. rw (positive-word w l, homed-positive l, positive-word (cutTo 6 w) (lt-of-le-of-lt (cut-le 6 w) l))) (λ l. negative-cut l u)
       (below-or-not w (2 ^ 31))
 
   -- a word is that of its sign and its magnitude
@@ -137,10 +137,10 @@ module _ (w : ℕ) where
   pub round-trip : RoundTrip w
   unfolding homed
   round-trip = record {
-    home = ⊎-elim none-home some-home (eq-zero-or-pos (wordMagnitude w));
-    sign = home-sign;
-    cut = home-cut;
+    returns = ⊎-elim returns-none returns-some (eq-zero-or-pos (wordMagnitude w));
+    sign = homed-sign;
+    cut = homed-cut;
     unaltered = λ u z. ap (signedWord (w / 2 ^ 31)) (cut-nothing 6 (wordMagnitude w) z) ∙ word-again u;
-    unaltered-only = λ u e. cut-nothing-only 6 (wordMagnitude w) (sym (home-cut u) ∙ ap wordMagnitude e);
-    again = λ u. ap₂ (λ (s c : ℕ). signedWord s c) (home-sign u) (ap (cutTo 6) (home-cut u) ∙ cut-again 6 (wordMagnitude w) (omega arith));
+    unaltered-only = λ u e. cut-nothing-only 6 (wordMagnitude w) (sym (homed-cut u) ∙ ap wordMagnitude e);
+    again = λ u. ap₂ (λ (s c : ℕ). signedWord s c) (homed-sign u) (ap (cutTo 6) (homed-cut u) ∙ cut-again 6 (wordMagnitude w) (omega arith));
   }

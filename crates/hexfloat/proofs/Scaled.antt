@@ -10,7 +10,7 @@ use borrow.Author.Tests.{lt-ltb, le-ltb, le-leb, lt-leb, eq-eqb, ne-eqb}
 use Rattle.hexfloat.specs.Add.{signed}
 use Rattle.hexfloat.specs.Normal.{digits, characteristicOf, fractionOf}
 use Rattle.hexfloat.specs.Result.{resultOf}
-use Rattle.hexfloat.proofs.Keys.{below-or-not}
+use Rattle.hexfloat.proofs.Trichotomy.{below-or-not}
 
 module _ (k : ℕ) (some : 0 < k) where
   -- tests of numbers that grow alike

@@ -15,10 +15,10 @@ use Rattle.hexfloat.specs.Word.{magnitude}
 use Rattle.hexfloat.proofs.Answers.{gives-inj, never}
 use Rattle.hexfloat.proofs.Digits.{pos, mono, power-lt, product-below}
 use Rattle.hexfloat.proofs.Fits.{fraction-most}
-use Rattle.hexfloat.proofs.Keys.{Trichotomy, less, same, more, trichotomy}
 use Rattle.hexfloat.proofs.Multiplied.{places, product-moved}
 use Rattle.hexfloat.proofs.Placed.{parted}
 use Rattle.hexfloat.proofs.Theorems.{result-cases}
+use Rattle.hexfloat.proofs.Trichotomy.{Trichotomy, less, same, more, trichotomy}
 
 -- a ratio with its characteristic and its fraction of d digits
 record Cut (d a b c f : ℕ) : Type 0 where

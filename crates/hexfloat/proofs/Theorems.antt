@@ -15,10 +15,10 @@ use Rattle.hexfloat.specs.Convert.{fixedMagnitude, wordMagnitude, floatP
 use Rattle.hexfloat.specs.Theorems.{OneNumber, ExactResult, ExactQuotient, ExactFixed, ExactFloat}
 use Rattle.hexfloat.proofs.Answers.{gives-inj, stops-inj, never}
 use Rattle.hexfloat.proofs.Digits.{pos, mono}
-use Rattle.hexfloat.proofs.Keys.{below-or-not}
 use Rattle.hexfloat.proofs.Results.{of-zero, too-large, too-small, number, by-zero, by-some}
 use Rattle.hexfloat.proofs.Ratio.{characteristic-unique, characteristic-is, fraction-unique, fraction-is, cut-is, cut-unique, above, not-above, below, not-below, below-zero}
 use Rattle.hexfloat.proofs.Converted as converted
+use Rattle.hexfloat.proofs.Trichotomy.{below-or-not}
 
 pub one-number : (d a b : ℕ) → 0 < a → 0 < b → OneNumber d a b
 one-number d a b ha hb = record {

@@ -40,8 +40,7 @@ pub record CompareEdges : Type 0 where
   pub short-exact : comparedWords Short (shortWords 0x42000001) (shortWords 0x4000010F) ≡ 3
   pub short-zero : comparedWords Short (shortWords 0x7F000000) (shortWords 0x41100000) ≡ 3
 
--- Words through float and home again (document 02, Job 9): six digits come home, later ones only where they are zero; of a negative word the magnitude is
--- cut.
+-- Words to float and back (document 02, Job 9): six digits come back, later ones only where they are zero; of a negative word the magnitude is cut.
 pub record RoundTripEdges : Type 0 where
   pub zero : homed 0 ≡ 0
   pub six-digits : homed 0x00FFFFFF ≡ 0x00FFFFFF

@@ -1,4 +1,4 @@
--- A word through float and home again: CVFL, then CVFX of what it gave (document 02, Job 9). What comes home is said of the word alone.
+-- A word to float and back: CVFL, then CVFX of what it gave (document 02, Job 9). What comes back is said of the word alone.
 use Prim.Native.Nat.{ℕ, _-_, _*_, _/_, _%_, _^_, _<_}
 use mathlib.Core.Path.{_≡_}
 use Rattle.hexfloat.specs.Normal.{digits}

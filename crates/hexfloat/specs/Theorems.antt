@@ -202,10 +202,10 @@ pub record ExactFloat (w : ℕ) : Type 0 where
       → floatParts w ≡ record { sign = w / 2 ^ 31; characteristic = c; fraction = f }
 
 -- Document 02, Job 9: what CVFL gives for a word, CVFX turns back without a stop into the word with its magnitude cut to six digits, with the condition
--- code of its upper halfword. A word of 32 bits keeps its sign; it comes home unaltered exactly if the digits after those six are zero; and what came home
--- once comes home unaltered.
+-- code of its upper halfword. A word of 32 bits keeps its sign; it comes back unaltered exactly if the digits after those six are zero; and what came back
+-- once comes back unaltered.
 pub record RoundTrip (w : ℕ) : Type 0 where
-  pub home : toFixed (toFloat w .word) ≡ gives (fixedCoded (homed w))
+  pub returns : toFixed (toFloat w .word) ≡ gives (fixedCoded (homed w))
   pub sign : w < 2 ^ 32 → homed w / 2 ^ 31 ≡ w / 2 ^ 31
   pub cut : w < 2 ^ 32 → wordMagnitude (homed w) ≡ cutTo 6 (wordMagnitude w)
   pub unaltered : w < 2 ^ 32 → ZerosAfter 6 (wordMagnitude w) → homed w ≡ w
