@@ -1,0 +1,11 @@
+pub mod Places
+pub mod Listed
+pub mod Written
+pub mod Belonging
+pub mod Blocks
+pub mod Remaining
+pub mod Shown
+pub mod Charting
+pub mod Members
+pub mod Totals
+pub mod Theorems

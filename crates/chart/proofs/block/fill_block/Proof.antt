@@ -1,0 +1,122 @@
+-- `chart::block::fill_block` meets its contract: what is left of the orders, written from here, is all of them from the start. Assumes nothing.
+use Prim.Native.Nat.{ℕ, _-_}
+use mathlib.Core.Path.{refl, sym, ap, subst}
+use native.Mathlib.Nat.{min-le-left, min-le-right}
+use native.Mathlib.Omega.{arith}
+use borrow.Author.Needs.{needs}
+use lib.ListN.{length}
+use Rattle.chart.specs.Block.{ordersIn}
+use Rattle.chart.specs.Writing.{Writing, writing, put}
+use Rattle.chart.proofs.Remaining.{BlockLeft, r1-there, block-on, block-end}
+use Rattle.chart.proofs.block.fill_block.Statement.{statement}
+use Rattle.chart.proofs.block.fill_block.Tie as tie
+use Rattle.chart.proofs.block.fill_block.Reads as reads
+use Rattle.chart.proofs.block.fill_block.Lts as lts
+use Rattle.chart.proofs.block.next_pair.Reads as next-pair-reads
+use Rattle.chart.proofs.block.place_at.Reads as place-at-reads
+use Rattle.chart.proofs.block.smaller.Reads as smaller-reads
+use Rattle.chart.proofs.run.fill_run.Reads as fill-run-reads
+
+abbrev Inv-loop : tie.InvT-loop
+Inv-loop cells₀ count b i m p₀ left₀ done₀ cells p left done = BlockLeft (put (ordersIn b i m) (writing cells₀ count)) (length cells₀) b p left (writing cells done)
+
+abbrev μ-loop : tie.MeasureT-loop
+μ-loop cells₀ count b i m p₀ left₀ done₀ cells p left done = left
+
+place-at-requires : tie.Need-place-at-requires Inv-loop μ-loop
+place-at-requires c κs = search needs
+
+loop-holds : tie.Need-loop-holds Inv-loop μ-loop
+loop-holds c =
+    let s = c .before .before in
+    let fits = s .pre in
+    let found = c .place-at .ensures in
+    record {
+      same = refl;
+      room = fits .room;
+      inside = found .1;
+      within = λ h. omega (arith, fits .within, found .0);
+      puts = ap (λ (i : ℕ). put (ordersIn (s .args .b) i (s .args .m)) (writing (s .args .cells .now) (s .args .count))) (found .0);
+    }
+
+sub-smaller : tie.Need-sub-smaller Inv-loop μ-loop
+sub-smaller c = let r = c .before .before .before .loop .inv in omega (arith, r .inside .at)
+
+smaller-requires : tie.Need-smaller-requires Inv-loop μ-loop
+smaller-requires c κs = search needs
+
+cast-t13 : tie.Need-cast-t13 Inv-loop μ-loop
+cast-t13 c =
+    let a = c .before .before .before .before .before in
+    record { fits = omega (arith, r1-there _ _ _ _ _ _ (a .loop .inv) (c .before .before .before .before .loop-test .taken), a .before .before .before .pre .small .r1s) }
+
+cast-t14 : tie.Need-cast-t14 Inv-loop μ-loop
+cast-t14 c =
+    let a = c .before .before .before .before .before .before in
+    record { fits = omega (arith, a .loop .inv .inside .r2, a .before .before .before .pre .small .r2s) }
+
+cast-t15 : tie.Need-cast-t15 Inv-loop μ-loop
+cast-t15 c =
+    let a = c .before .before .before .before .before .before .before in
+    record { fits = omega (arith, a .loop .inv .inside .at, a .before .before .before .pre .small .ats) }
+
+fill-run-requires : tie.Need-fill-run-requires Inv-loop μ-loop
+fill-run-requires c κs =
+    let a = c .before .before .before .before .before .before .before .before in
+    let r = a .loop .inv in
+    let b = a .before .before .before .args .b in
+    let k = c .before .before .before .before .smaller .ensures in
+    record {
+      room = omega (arith, r .room, r .same, k, min-le-left (a .loop .left) (b .ats - a .loop .p .at));
+      cells = omega (arith, r .inside .at, k, min-le-right (a .loop .left) (b .ats - a .loop .p .at), a .before .before .before .pre .small .ats);
+    }
+
+sub-left : tie.Need-sub-left Inv-loop μ-loop
+sub-left c =
+    let a = c .before .before .before .before .before .before .before .before .before .before .before .loop in
+    omega (arith, c .before .before .before .before .before .before .before .smaller .ensures, min-le-left (a .left) (c .before .before .before .before .before .before .before .before .before .before .before .before .before .before .args .b .ats - a .p .at))
+
+next-pair-requires : tie.Need-next-pair-requires Inv-loop μ-loop
+next-pair-requires c κs =
+    let a = c .before .before .before .before .before .before .before .before .before .before .before in
+    (a .loop .inv .inside, omega (arith, r1-there _ _ _ _ _ _ (a .loop .inv) (c .before .before .before .before .before .before .before .before .before .before .loop-test .taken), a .before .before .before .pre .small .r1s))
+
+loop-less : tie.Need-loop-less Inv-loop μ-loop
+loop-less c =
+    let a = c .before .before .before .before .before .before .before .before .before .before .before .before .loop in
+    omega (arith, c .before .before .before .before .before .before .before .before .smaller .ensures, c .before .before .before .before .before .before .before .before .before .before .before .loop-test .taken, a .inv .inside .at)
+
+loop-again : tie.Need-loop-again Inv-loop μ-loop
+loop-again c =
+    let a = c .before .before .before .before .before .before .before .before .before .before .before .before in
+    let r = a .loop .inv in
+    let q = c .next-pair .ensures in
+    let on = block-on _ _ _ _ _ _ r (c .before .before .before .before .before .before .before .before .before .before .before .loop-test .taken) (c .next-pair .result) (c .before .before .before .before .before .before .before .before .smaller .result) (c .before .before .before .before .before .before .before .before .smaller .ensures) (q .0) (q .1) in
+    rw (c .before .before .before .fill-run .ensures) on
+
+same-length : tie.Need-same-length Inv-loop μ-loop
+same-length c = c .before .loop .inv .same
+
+returns : tie.Need-returns Inv-loop μ-loop
+returns c = block-end _ _ _ _ _ _ (omega (arith, c .loop-test .left)) (c .before .loop .inv)
+
+pub fill-block-spec : {M : Type 1} → statement M
+fill-block-spec =
+    tie.close
+    (tie.spec
+    Inv-loop
+    μ-loop
+    place-at-requires
+    loop-holds
+    sub-smaller
+    smaller-requires
+    cast-t13
+    cast-t14
+    cast-t15
+    fill-run-requires
+    sub-left
+    next-pair-requires
+    loop-less
+    loop-again
+    same-length
+    returns)

@@ -1,0 +1,5 @@
+pub mod Chart
+pub mod Piece
+pub mod Block
+pub mod Writing
+pub mod Theorems
