@@ -1,2 +1,3 @@
 pub mod Reply
 pub mod Explain
+pub mod Chart

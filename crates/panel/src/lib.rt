@@ -3,10 +3,12 @@
 // by value, so that a refusal writes nothing at all.
 mod value;
 
+use chart::Charted;
 use decktext::Reading;
 use machine::State;
 use value::Answer;
 use value::Explanation;
+use value::Piece;
 use value::back_by_value;
 use value::run_by_value;
 use value::step_by_value;
@@ -19,7 +21,9 @@ ghost use Rattle.machine.specs.Step.{single, stepped, outcome};
 ghost use Rattle.machine.specs.Run.{ran};
 ghost use Rattle.machine.specs.Back.{backed};
 ghost use Rattle.cause.specs.Cause.{whyOf};
+ghost use Rattle.chart.specs.Piece.{chartInto};
 ghost use Rattle.decktext.specs.Read.{buffers, readText};
+ghost use Rattle.panel.specs.Chart.{pieceOf};
 ghost use Rattle.panel.specs.Explain.{explanationOf};
 ghost use Rattle.panel.specs.Reply.{reply, replied};
 
@@ -123,4 +127,25 @@ pub extern "C" fn panel_why(
         ≡ explanationOf (whyOf (now (deck .entry)) (bitwise (now (protect .entry))) (machine (now (state .entry)) (now (memory .entry)) (now (journal .entry)))) ⌝ }
 {
     why_by_value(*state, deck, memory, protect, journal)
+}
+
+// The chart of every legal order with `at` below the bound, from a rank on, as much as the cells hold.
+#[no_mangle]
+pub extern "C" fn panel_chart(bound: u16, rank: u32, cells: &mut [u16]) -> Piece
+    ensures { λ r. ⌜ (now (cells .exit) ≡ chartInto bound rank (now (cells .entry)) .cells)
+        × (r ≡ pieceOf (chartInto bound rank (now (cells .entry)) .said)) ⌝ }
+{
+    let charted = chart::list(bound, rank, cells);
+    match charted {
+        Charted::Uneven => Piece {
+            number: 19,
+            total: 0,
+            written: 0,
+        },
+        Charted::Piece { total, written } => Piece {
+            number: 0,
+            total,
+            written,
+        },
+    }
 }

@@ -152,3 +152,12 @@ pub fn why_by_value(
 {
     explain(cause::why(s, deck, memory, protect, journal))
 }
+
+// What C receives of a piece of the chart: 0 or the number of the refusal, how many orders there are, and how
+// many were written.
+#[repr(C)]
+pub struct Piece {
+    pub number: u32,
+    pub total: u32,
+    pub written: u32,
+}
