@@ -32,6 +32,13 @@ struct Cause {
 }
 
 #[repr(C)]
+struct Piece {
+    number: u32,
+    total: u32,
+    written: u32,
+}
+
+#[repr(C)]
 #[derive(Clone, Copy)]
 pub struct Lent {
     registers: Registers,
@@ -93,6 +100,7 @@ extern "C" {
         protect: *mut u8,
         protect_len: usize,
     ) -> Answer;
+    fn panel_chart(bound: u16, rank: u32, cells: *mut u16, cells_len: usize) -> Piece;
 }
 
 impl From<State> for Lent {
@@ -211,5 +219,15 @@ pub fn read(text: &[u8], cells: &mut [u16], memory: &mut [u16], protect: &mut [u
     match a.number {
         0 => Ok(a.value),
         n => Err((n as u8, a.value)),
+    }
+}
+
+/// The total and the orders written, or the number of the refusal.
+#[inline]
+pub fn chart(bound: u16, rank: u32, cells: &mut [u16]) -> Result<(u32, u32), u8> {
+    let p = unsafe { panel_chart(bound, rank, cells.as_mut_ptr(), cells.len()) };
+    match p.number {
+        0 => Ok((p.total, p.written)),
+        n => Err(n as u8),
     }
 }

@@ -800,3 +800,30 @@ pub fn read(text: &[u8], cells: &mut [u16], memory: &mut [u16], protect: &mut [u
     }
     Ok(orders.len() as u32)
 }
+
+// ---- the chart of legal orders
+
+/// Every legal order with `at` below n where it is in use, one after the other; those from a rank on are written while there
+/// is room. The total and the orders written.
+pub fn chart(n: u16, rank: u32, cells: &mut [u16]) -> Result<(u32, u32), u8> {
+    if cells.len() % 4 != 0 {
+        return Err(19);
+    }
+    let (mut total, mut end) = (0, 0);
+    for code in 1..=35 {
+        let Some((last_r1, last_r2, at_used, _)) = form(code) else { continue };
+        let ats = if at_used { n } else { 1 };
+        for r1 in 0..=last_r1 {
+            for r2 in 0..=last_r2 {
+                for at in 0..ats {
+                    if total >= rank && end < cells.len() {
+                        cells[end..end + 4].copy_from_slice(&[code, r1, r2, at]);
+                        end += 4;
+                    }
+                    total += 1;
+                }
+            }
+        }
+    }
+    Ok((total, (end / 4) as u32))
+}

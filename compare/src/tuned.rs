@@ -696,3 +696,44 @@ pub fn read(text: &[u8], cells: &mut [u16], memory: &mut [u16], protect: &mut [u
     }
     Ok((n / 4) as u32)
 }
+
+/// How many r1, r2 and `at` the orders of a code have.
+#[inline(always)]
+fn counts(code: u16, n: u32) -> (u32, u32, u32) {
+    match code {
+        1 | 4 | 5 | 7 | 9 | 10 | 11 | 13 | 23 | 25 | 27 | 29 | 31 | 33 => (8, 8, 1),
+        19 | 35 => (1, 2, 1),
+        20 | 21 => (8, 1, n),
+        22 => (1, 1, 1),
+        _ => (8, 8, n),
+    }
+}
+
+/// A piece of the chart of legal orders: whole codes are skipped by their sizes, then runs of `at` are written.
+pub fn chart(n: u16, rank: u32, cells: &mut [u16]) -> Result<(u32, u32), u8> {
+    if cells.len() % 4 != 0 {
+        return Err(19);
+    }
+    let (mut total, mut skip, mut end) = (0, rank, 0);
+    for code in 1..=35 {
+        let (r1s, r2s, ats) = counts(code, n as u32);
+        let size = r1s * r2s * ats;
+        total += size;
+        if size <= skip {
+            skip -= size;
+            continue;
+        }
+        let (mut pair, mut at) = (skip / ats, skip % ats);
+        skip = 0;
+        while pair < r1s * r2s && end < cells.len() {
+            let run = (ats - at).min(((cells.len() - end) / 4) as u32);
+            let first = [code, (pair / r2s) as u16, (pair % r2s) as u16, at as u16];
+            for (k, order) in cells[end..end + 4 * run as usize].chunks_exact_mut(4).enumerate() {
+                order.copy_from_slice(&[first[0], first[1], first[2], first[3] + k as u16]);
+            }
+            end += 4 * run as usize;
+            (pair, at) = (pair + 1, 0);
+        }
+    }
+    Ok((total, (end / 4) as u32))
+}

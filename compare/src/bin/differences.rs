@@ -308,13 +308,43 @@ fn reading(r: &mut Random) -> u64 {
     1
 }
 
+/// A piece of the chart of legal orders: any rank, often near the total or a block's end, into a buffer of any length.
+fn charting(r: &mut Random) -> u64 {
+    let n = match r.below(2000) {
+        0 => 65_535 - r.below(3) as u16,
+        1..=1500 => r.below(4) as u16,
+        _ => r.below(40) as u16,
+    };
+    let total = 901 + 1040 * n as u64;
+    let rank = match r.below(8) {
+        0 => 0,
+        1 => r.next() as u32,
+        2 => (total + 2 - r.below(5)) as u32,
+        3 => (64 * r.below(total / 64)) as u32,
+        _ => r.below(total) as u32,
+    };
+    let length = match r.below(100) {
+        0 => 4 * total.min(20_000),
+        1..=79 => 4 * r.below(40),
+        _ => r.below(160),
+    };
+    let mut cells: Vec<u16> = (0..length).map(|_| r.next() as u16).collect();
+    let (mut lent, mut tuned) = (Guarded::new(&cells, 0xA5A5), cells.clone());
+    let theirs = panel::chart(n, rank, lent.inner());
+    let quick = tuned::chart(n, rank, &mut tuned);
+    let ours = reference::chart(n, rank, &mut cells);
+    assert!(ours == quick && tuned == cells, "the tuned chart differs: {n} {rank} {length}");
+    assert!(ours == theirs && lent.is(&cells), "{ours:?} here, {theirs:?} in the panel library: {n} {rank} {length}");
+    1
+}
+
 fn main() {
     let seed = std::env::args().nth(1).and_then(|s| s.parse().ok()).unwrap_or(20_261_115);
     let mut r = Random::new(seed);
     let mut lent = Lent::from(state(&mut r));
     panel::fresh(&mut lent);
     assert!(State::from(lent) == State::default());
-    let (mut calls, mut texts) = (1, 0);
+    let (mut calls, mut texts, mut charts) = (1, 0, 0);
     while calls < CALLS {
         if r.chance(3) {
             texts += 1;
@@ -322,6 +352,12 @@ fn main() {
         } else {
             calls += machine(&mut r);
         }
+        if r.chance(2) {
+            charts += 1;
+            calls += charting(&mut r);
+        }
     }
-    println!("{calls} calls, {texts} of them texts, and before each other one the question why: 0 differences (seed {seed})");
+    println!(
+        "{calls} calls, {texts} of them texts, {charts} pieces of a chart, and before each other one the question why: 0 differences (seed {seed})"
+    );
 }

@@ -1,4 +1,4 @@
-//! Nanoseconds per step (or per byte of text), the proved library beside the two plain implementations: all release
+//! Nanoseconds per step (or per byte of text, or per order of the chart), the proved library beside the two plain implementations: all release
 //! builds, the same inputs, one run, the three sides alternating. The median of the rounds counts.
 use compare::panel::{self, Lent};
 use compare::random::Random;
@@ -207,7 +207,27 @@ fn reading(r: &mut Random) -> Row {
     )
 }
 
-fn chart(rows: &[Row]) -> String {
+/// The whole chart of legal orders for a bound, into a buffer that holds it.
+fn charting(name: &'static str, bound: u16) -> Row {
+    let orders = 901 + 1040 * bound as usize;
+    let blank = vec![0u16; 4 * orders];
+    let (mut a, mut b, mut c) = (blank.clone(), blank.clone(), blank);
+    let whole = Ok((orders as u32, orders as u32));
+    let answers = [panel::chart(bound, 0, &mut a), reference::chart(bound, 0, &mut b), tuned::chart(bound, 0, &mut c)];
+    assert!(answers == [whole; 3] && a == b && a == c);
+    measure(
+        name,
+        "ns/order",
+        orders as f64,
+        [
+            &mut || assert_eq!(panel::chart(black_box(bound), 0, &mut a), whole),
+            &mut || assert_eq!(reference::chart(black_box(bound), 0, &mut b), whole),
+            &mut || assert_eq!(tuned::chart(black_box(bound), 0, &mut c), whole),
+        ],
+    )
+}
+
+fn drawn(rows: &[Row]) -> String {
     let height = 82 + 50 * rows.len();
     let mut out = format!(
         "<svg xmlns=\"http://www.w3.org/2000/svg\" width=\"720\" height=\"{height}\" font-family=\"sans-serif\" font-size=\"13\">\n\
@@ -303,6 +323,8 @@ fn main() {
         run("(l) long compares, unnormalised", &long_compares, floats(r, 0x870f_ffff), vec![0; 64]),
         run("(m) loads and stores, indexed", &indexed_moves, indexed, words(r, 0xff_ffff)),
         run("(n) general registers of both sets", &both_sets, two_tables, words(r, 0xff_ffff)),
+        charting("(o) the chart of orders, bound 100", 100),
+        charting("(p) the chart of orders, bound 1", 1),
     ];
     println!("{:<36} {:>8} {:>8} {:>8} {:>9} {:>9}", "", "proved", "plain", "tuned", "to plain", "to tuned");
     for r in &rows {
@@ -312,6 +334,6 @@ fn main() {
     let [fast, slow] = rows[0].spread;
     println!("medians of {ROUNDS} rounds; in row (a) a tenth of the plain rounds was below {fast:.1}, a tenth above {slow:.1} ns/step");
     if let Some(path) = std::env::args().nth(1) {
-        std::fs::write(path, chart(&rows)).expect("the chart is written");
+        std::fs::write(path, drawn(&rows)).expect("the chart is written");
     }
 }
