@@ -50,6 +50,12 @@ pub record BlockLeft (goal : Writing) (l : ℕ) (b : Block) (p : Place) (left : 
   pub within : 0 < left → placeIn b p + left ≤ sizeOf b
   pub puts : put (ordersIn b (placeIn b p) left) s ≡ goal
 
+-- a place whose numbers cells can hold
+pub record SmallPlace (p : Place) : Type 0 where
+  pub r1 : p .r1 < 8
+  pub r2 : p .r2 < 8
+  pub at : p .at < 65536
+
 -- from a place on, as far as the next pair of r1 and r2
 run-there : (b : Block) (p : Place) (k : ℕ) → Inside b p → p .at + k ≤ b .ats → ordersIn b (placeIn b p) k ≡ run (order (b .code) (p .r1) (p .r2) (p .at)) k
 run-there b p k inside h =
@@ -57,8 +63,11 @@ run-there b p k inside h =
     (λ j l. ap (λ (o : Order). o ∷ []) (order-there b p j (inside .r2) (omega arith)))
 
 module _ (goal : Writing) (l : ℕ) (b : Block) (p : Place) (left : ℕ) (s : Writing) (r : BlockLeft goal l b p left s) (some : 0 < left) where
-  pub r1-there : p .r1 < b .r1s
-  r1-there = r1-below b p (omega (arith, r .within some))
+  -- the cells of the next order
+  pub place-small : Small b → SmallPlace p
+  place-small small =
+      let row = r1-below b p (omega (arith, r .within some)) in
+      record { r1 = omega (arith, small .r1s); r2 = omega (arith, r .inside .r2, small .r2s); at = omega (arith, r .inside .at, small .ats) }
 
   -- a run more, to the next pair or to the end of what is left
   module _ (q : Place) (k : ℕ) (least : k ≡ min left (b .ats - p .at)) (next : placeIn b q ≡ placeIn b p + (b .ats - p .at)) where

@@ -7,7 +7,7 @@ use borrow.Author.Needs.{needs}
 use lib.ListN.{length}
 use Rattle.chart.specs.Block.{ordersIn}
 use Rattle.chart.specs.Writing.{Writing, writing, put}
-use Rattle.chart.proofs.Remaining.{BlockLeft, r1-there, block-on, block-end}
+use Rattle.chart.proofs.Remaining.{BlockLeft, place-small, block-on, block-end}
 use Rattle.chart.proofs.block.fill_block.Statement.{statement}
 use Rattle.chart.proofs.block.fill_block.Tie as tie
 use Rattle.chart.proofs.block.fill_block.Reads as reads
@@ -47,18 +47,18 @@ smaller-requires c κs = search needs
 
 cast-t13 : tie.Need-cast-t13 Inv-loop μ-loop
 cast-t13 c =
-    let a = c .before .before .before .before .before in
-    record { fits = omega (arith, r1-there _ _ _ _ _ _ (a .loop .inv) (c .before .before .before .before .loop-test .taken), a .before .before .before .pre .small .r1s) }
+    let small = place-small _ _ _ _ _ _ (c .before .before .before .before .before .loop .inv) (c .before .before .before .before .loop-test .taken) (c .before .before .before .before .before .before .before .before .pre .small) in
+    record { fits = omega arith }
 
 cast-t14 : tie.Need-cast-t14 Inv-loop μ-loop
 cast-t14 c =
-    let a = c .before .before .before .before .before .before in
-    record { fits = omega (arith, a .loop .inv .inside .r2, a .before .before .before .pre .small .r2s) }
+    let small = place-small _ _ _ _ _ _ (c .before .before .before .before .before .before .loop .inv) (c .before .before .before .before .before .loop-test .taken) (c .before .before .before .before .before .before .before .before .before .pre .small) in
+    record { fits = omega arith }
 
 cast-t15 : tie.Need-cast-t15 Inv-loop μ-loop
 cast-t15 c =
-    let a = c .before .before .before .before .before .before .before in
-    record { fits = omega (arith, a .loop .inv .inside .at, a .before .before .before .pre .small .ats) }
+    let small = place-small _ _ _ _ _ _ (c .before .before .before .before .before .before .before .loop .inv) (c .before .before .before .before .before .before .loop-test .taken) (c .before .before .before .before .before .before .before .before .before .before .pre .small) in
+    record { fits = omega arith }
 
 fill-run-requires : tie.Need-fill-run-requires Inv-loop μ-loop
 fill-run-requires c κs =
@@ -79,7 +79,7 @@ sub-left c =
 next-pair-requires : tie.Need-next-pair-requires Inv-loop μ-loop
 next-pair-requires c κs =
     let a = c .before .before .before .before .before .before .before .before .before .before .before in
-    (a .loop .inv .inside, omega (arith, r1-there _ _ _ _ _ _ (a .loop .inv) (c .before .before .before .before .before .before .before .before .before .before .loop-test .taken), a .before .before .before .pre .small .r1s))
+    (a .loop .inv .inside, place-small _ _ _ _ _ _ (a .loop .inv) (c .before .before .before .before .before .before .before .before .before .before .loop-test .taken) (a .before .before .before .pre .small) .r1)
 
 loop-less : tie.Need-loop-less Inv-loop μ-loop
 loop-less c =
