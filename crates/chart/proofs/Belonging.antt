@@ -16,7 +16,7 @@ use Rattle.orders.specs.Order.{rows, operationOf, withinLimits, legalOf}
 use Rattle.orders.proofs.Passing.{legal-row}
 use Rattle.orders.proofs.Table.{allRows, row-passes}
 use Rattle.chart.specs.Block.{atsOf}
-use Rattle.chart.specs.Chart.{passing, atBelow, belongs, charted}
+use Rattle.chart.specs.Chart.{passing, atBelow, belongs, ifBelongs}
 use Rattle.chart.specs.Theorems.{Belongs}
 
 -- what holds of each row of the table
@@ -116,22 +116,22 @@ module _ (n : ℕ) (o : Order) where
       cases true e = refl
       cases false e = lt-ltb (o .at) n (h .below (λ z. let l = leb-false (h .operation .at) 0 e in omega arith))
 
-  pub charted-once : Belongs n o → charted n o ≡ o ∷ []
-  unfolding charted
-  charted-once h = rw (belongs-true h)
+  pub belongs-once : Belongs n o → ifBelongs n o ≡ o ∷ []
+  unfolding ifBelongs
+  belongs-once h = rw (belongs-true h)
 
-  pub charted-not : (Belongs n o → ⊥) → charted n o ≡ []
-  unfolding charted
-  charted-not out = cases (belongs n o) refl
+  pub belongs-not : (Belongs n o → ⊥) → ifBelongs n o ≡ []
+  unfolding ifBelongs
+  belongs-not out = cases (belongs n o) refl
     where
       cases : (b : Bool) → belongs n o ≡ b → cond b (o ∷ []) [] ≡ []
       cases true e = absurd (out (true-belongs e))
       cases false e = refl
 
   -- it is there once and belongs, or is not there
-  pub charted-cases : ((charted n o ≡ o ∷ []) × Belongs n o) ⊎ (charted n o ≡ [])
-  unfolding charted
-  charted-cases = cases (belongs n o) refl
+  pub belongs-cases : ((ifBelongs n o ≡ o ∷ []) × Belongs n o) ⊎ (ifBelongs n o ≡ [])
+  unfolding ifBelongs
+  belongs-cases = cases (belongs n o) refl
     where
       cases : (b : Bool) → belongs n o ≡ b → ((cond b (o ∷ []) [] ≡ o ∷ []) × Belongs n o) ⊎ (cond b (o ∷ []) [] ≡ [])
       cases true e = inl (refl, true-belongs e)

@@ -11,15 +11,15 @@ use Rattle.orders.specs.declared.order.Operation.{Operation}
 use Rattle.orders.specs.declared.order.Order.{Order}
 use Rattle.orders.specs.Order.{operationOf}
 use Rattle.chart.specs.Block.{block, atsOf, blockBy, blockOf, sizeOf, Small, orderIn, allOrders}
-use Rattle.chart.specs.Chart.{order, listedFrom, forEachCell, charted, chart}
+use Rattle.chart.specs.Chart.{order, listedFrom, forEachCell, ifBelongs, chart}
 use Rattle.chart.specs.Theorems.{Belongs}
-use Rattle.chart.proofs.Belonging.{Row, row-known, legal-known, Within, belongs-within, within-belongs, charted-once, charted-not}
+use Rattle.chart.proofs.Belonging.{Row, row-known, legal-known, Within, belongs-within, within-belongs, belongs-once, belongs-not}
 use Rattle.chart.proofs.Listed.{listed-none, listed-alike, listed-cut, listed-nested}
 
 -- the orders of code c in the chart for the bound n
 module _ (n c : ℕ) where
   abbrev pub onAt : ℕ → ℕ → List Order
-  onAt a b = forEachCell (λ t. charted n (order c a b t))
+  onAt a b = forEachCell (λ t. ifBelongs n (order c a b t))
 
   abbrev pub onR2 : ℕ → List Order
   onR2 a = forEachCell (λ b. onAt a b)
@@ -29,7 +29,7 @@ module _ (n c : ℕ) where
 
   -- none of the orders with these cells belongs
   none-at : (a b : ℕ) → ((t : ℕ) → Belongs n (order c a b t) → ⊥) → onAt a b ≡ []
-  none-at a b out = listed-none 65536 0 (λ t. charted n (order c a b t)) (λ t l u. charted-not n (order c a b t) (out t))
+  none-at a b out = listed-none 65536 0 (λ t. ifBelongs n (order c a b t)) (λ t l u. belongs-not n (order c a b t) (out t))
 
   none-r2 : (a : ℕ) → ((b t : ℕ) → Belongs n (order c a b t) → ⊥) → onR2 a ≡ []
   none-r2 a out = listed-none 65536 0 (λ b. onAt a b) (λ b l u. none-at a b (out b))
@@ -54,9 +54,9 @@ module _ (n c : ℕ) where
     -- those that belong
     some-at : (a b : ℕ) → a ≤ op .r1 → b ≤ op .r2 → onAt a b ≡ listedFrom 0 (atsOf n (op .at)) (λ t. order c a b t ∷ [])
     some-at a b ha hb =
-        listed-cut (atsOf n (op .at)) 65536 (λ t. charted n (order c a b t)) (λ t. order c a b t ∷ []) ats-small
-        (λ t l. charted-once n (order c a b t) (within-belongs n (order c a b t) op row small (record { r1 = ha; r2 = hb; at = l })))
-        (λ t l u. charted-not n (order c a b t) (λ h. omega (arith, within a b t h .at)))
+        listed-cut (atsOf n (op .at)) 65536 (λ t. ifBelongs n (order c a b t)) (λ t. order c a b t ∷ []) ats-small
+        (λ t l. belongs-once n (order c a b t) (within-belongs n (order c a b t) op row small (record { r1 = ha; r2 = hb; at = l })))
+        (λ t l u. belongs-not n (order c a b t) (λ h. omega (arith, within a b t h .at)))
 
     some-r2 : (a : ℕ) → a ≤ op .r1 → onR2 a ≡ listedFrom 0 (op .r2 + 1) (λ b. listedFrom 0 (atsOf n (op .at)) (λ t. order c a b t ∷ []))
     some-r2 a ha =

@@ -3,7 +3,7 @@ pub mod Listed
 pub mod Written
 pub mod Belonging
 pub mod Blocks
-pub mod Remaining
+pub mod Left
 pub mod Shown
 pub mod Charting
 pub mod Members

@@ -10,31 +10,31 @@ use Rattle.hexfloat.specs.Answer.{gives}
 use Rattle.orders.specs.declared.order.Operation.{Operation}
 use Rattle.orders.specs.declared.order.Order.{Order}
 use Rattle.orders.specs.Order.{legalOf}
-use Rattle.chart.specs.Chart.{order, listedFrom, charted, chart}
+use Rattle.chart.specs.Chart.{order, listedFrom, ifBelongs, chart}
 use Rattle.chart.specs.Piece.{cellsOf, piece}
 use Rattle.chart.specs.Theorems.{In, Belongs, Before, Rises, IsChart, Theorems}
-use Rattle.chart.proofs.Belonging.{row-known, legal-known, charted-once, charted-cases}
+use Rattle.chart.proofs.Belonging.{row-known, legal-known, belongs-once, belongs-cases}
 use Rattle.chart.proofs.Blocks.{onAt, onR2, onR1}
 use Rattle.chart.proofs.Members.{ListedFor, listed-for, listed-in, rises-listed, same-orders}
 use Rattle.chart.proofs.Totals.{chart-total}
 
 -- what is listed for a cell is the order with it, and belongs
-charted-in : (n : ℕ) (o p : Order) → In o (charted n p) → (o ≡ p) × Belongs n p
-charted-in n o p h =
+belongs-in : (n : ℕ) (o p : Order) → In o (ifBelongs n p) → (o ≡ p) × Belongs n p
+belongs-in n o p h =
     ⊎-elim
     (λ q. (List·Memᴰ·eq-of-singleton (subst (In o) (q .0) h), q .1))
     (λ e. absurd (List·Memᴰ·not-nil (subst (In o) e h)))
-    (charted-cases n p)
+    (belongs-cases n p)
 
-charted-rises : (n : ℕ) (p : Order) → Rises (charted n p)
-charted-rises n p = ⊎-elim (λ q. rw (q .0) (λ x h. absurd (List·Memᴰ·not-nil h), tt)) (λ e. rw e tt) (charted-cases n p)
+belongs-rises : (n : ℕ) (p : Order) → Rises (ifBelongs n p)
+belongs-rises n p = ⊎-elim (λ q. rw (q .0) (λ x h. absurd (List·Memᴰ·not-nil h), tt)) (λ e. rw e tt) (belongs-cases n p)
 
 module _ (n c : ℕ) where
   -- the cells of what is listed
   cells-at : (a b : ℕ) (o : Order) → In o (onAt n c a b) → (o .code ≡ c) × (o .r1 ≡ a) × (o .r2 ≡ b)
   cells-at a b o h =
-      let r = listed-for o 65536 0 (λ t. charted n (order c a b t)) h in
-      let e = charted-in n o (order c a b (r .number)) (r .listed) .0 in
+      let r = listed-for o 65536 0 (λ t. ifBelongs n (order c a b t)) h in
+      let e = belongs-in n o (order c a b (r .number)) (r .listed) .0 in
       (ap (λ (x : Order). x .code) e, ap (λ (x : Order). x .r1) e, ap (λ (x : Order). x .r2) e)
 
   cells-r2 : (a : ℕ) (o : Order) → In o (onR2 n c a) → (o .code ≡ c) × (o .r1 ≡ a)
@@ -49,9 +49,9 @@ module _ (n c : ℕ) where
   -- cell by cell
   rises-at : (a b : ℕ) → Rises (onAt n c a b)
   rises-at a b =
-      rises-listed 65536 0 (λ t. charted n (order c a b t)) (λ t. charted-rises n (order c a b t))
+      rises-listed 65536 0 (λ t. ifBelongs n (order c a b t)) (λ t. belongs-rises n (order c a b t))
       (λ j k l x y hx hy.
-      rw (charted-in n x (order c a b j) hx .0, charted-in n y (order c a b k) hy .0) (inr (refl, inr (refl, inr (refl, inl l)))))
+      rw (belongs-in n x (order c a b j) hx .0, belongs-in n y (order c a b k) hy .0) (inr (refl, inr (refl, inr (refl, inl l)))))
 
   rises-r2 : (a : ℕ) → Rises (onR2 n c a)
   rises-r2 a =
@@ -81,8 +81,8 @@ module _ (n : ℕ) where
       let c = listed-for o 65536 0 (λ c. onR1 n c) h in
       let a = listed-for o 65536 0 (λ a. onR2 n (c .number) a) (c .listed) in
       let b = listed-for o 65536 0 (λ b. onAt n (c .number) (a .number) b) (a .listed) in
-      let t = listed-for o 65536 0 (λ t. charted n (order (c .number) (a .number) (b .number) t)) (b .listed) in
-      let q = charted-in n o (order (c .number) (a .number) (b .number) (t .number)) (t .listed) in
+      let t = listed-for o 65536 0 (λ t. ifBelongs n (order (c .number) (a .number) (b .number) t)) (b .listed) in
+      let q = belongs-in n o (order (c .number) (a .number) (b .number) (t .number)) (t .listed) in
       subst (Belongs n) (sym (q .0)) (q .1)
 
   chart-every : (o : Order) → Belongs n o → In o (chart n)
@@ -91,11 +91,11 @@ module _ (n : ℕ) where
       let k = legal-known o (h .operation) (h .legal) in
       let row = row-known (o .code) (h .operation) (k .row) in
       let small : o .at < 65536 = ⊎-elim (λ e. omega (arith, k .at)) (λ e. omega (arith, k .at)) (row .at) in
-      let once : In o (charted n o) = rw (charted-once n o h) (List·Memᴰ·head refl) in
+      let once : In o (ifBelongs n o) = rw (belongs-once n o h) (List·Memᴰ·head refl) in
       listed-in o 65536 0 (o .code) (λ c. onR1 n c) (omega arith) (omega (arith, row .code))
       (listed-in o 65536 0 (o .r1) (λ a. onR2 n (o .code) a) (omega arith) (omega (arith, k .r1, row .r1))
       (listed-in o 65536 0 (o .r2) (λ b. onAt n (o .code) (o .r1) b) (omega arith) (omega (arith, k .r2, row .r2))
-      (listed-in o 65536 0 (o .at) (λ t. charted n (order (o .code) (o .r1) (o .r2) t)) (omega arith) (omega arith) once)))
+      (listed-in o 65536 0 (o .at) (λ t. ifBelongs n (order (o .code) (o .r1) (o .r2) t)) (omega arith) (omega arith) once)))
 
   is-chart : IsChart n (chart n)
   is-chart = record { only = chart-only; every = chart-every; rises = chart-rises }

@@ -57,5 +57,5 @@ pub record Inside (b : Block) (p : Place) : Type 0 where
   pub at : p .at < b .ats
 
 -- m orders that differ in `at` alone, which rises by one
-abbrev pub run : Order → ℕ → List Order
-run o m = listedFrom (o .at) m (λ t. order (o .code) (o .r1) (o .r2) t ∷ [])
+abbrev pub series : Order → ℕ → List Order
+series o m = listedFrom (o .at) m (λ t. order (o .code) (o .r1) (o .r2) t ∷ [])

@@ -35,9 +35,9 @@ abbrev pub forEachCell : (ℕ → List Order) → List Order
 forEachCell f = listedFrom 0 65536 f
 
 -- an order that belongs, once; one that does not, not at all
-unfoldable pub charted : ℕ → Order → List Order
-charted n o = cond (belongs n o) (o ∷ []) []
+unfoldable pub ifBelongs : ℕ → Order → List Order
+ifBelongs n o = cond (belongs n o) (o ∷ []) []
 
 -- rising by code, then r1, r2, at
 unfoldable pub chart : ℕ → List Order
-chart n = forEachCell (λ c. forEachCell (λ a. forEachCell (λ b. forEachCell (λ t. charted n (order c a b t)))))
+chart n = forEachCell (λ c. forEachCell (λ a. forEachCell (λ b. forEachCell (λ t. ifBelongs n (order c a b t)))))

@@ -27,7 +27,7 @@ put [] s = s
 put (o ∷ os) s = put os (withOrder o s)
 
 -- m orders more have room in l cells, and `at` goes from t on
-pub record RunFits (l count t m : ℕ) : Type 0 where
+pub record SeriesFits (l count t m : ℕ) : Type 0 where
   pub room : (count + m) * 4 ≤ l
   pub cells : t + m ≤ 65536
 

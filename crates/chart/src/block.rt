@@ -1,5 +1,5 @@
 // The orders of one code: every r1 up to its limit, for each every r2, for each every `at`.
-use crate::run::fill_run;
+use crate::series::fill_series;
 use orders::Legality;
 use orders::Order;
 ghost use mathlib.Core.Path.{_≡_};
@@ -93,10 +93,15 @@ fn next_pair(b: Block, p: Place) -> Place
     }
 }
 
-fn smaller(a: u32, b: u32) -> u32
-    ensures { λ r. ⌜ r ≡ min a b ⌝ }
+// As many orders as there are, or as there is room for.
+pub fn fitting(orders: u32, room: usize) -> u32
+    ensures { λ r. ⌜ r ≡ min orders room ⌝ }
 {
-    if a < b { a } else { b }
+    let all = orders as usize;
+    if room < all {
+        return room as u32;
+    }
+    orders
 }
 
 // Writes m orders of the block, from place i on, after the `count` that are there.
@@ -108,14 +113,14 @@ pub fn fill_block(cells: &mut [u16], count: usize, b: Block, i: u32, m: u32) -> 
     let mut left = m;
     let mut done = count;
     while 0 < left {
-        let k = smaller(left, b.ats - p.at);
+        let k = fitting(left, (b.ats - p.at) as usize);
         let first = Order {
             code: b.code,
             r1: p.r1 as u16,
             r2: p.r2 as u16,
             at: p.at as u16,
         };
-        done = fill_run(cells, done, first, k);
+        done = fill_series(cells, done, first, k);
         left -= k;
         p = next_pair(b, p);
     }

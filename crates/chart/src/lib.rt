@@ -4,7 +4,7 @@
 // The chart is had in pieces, from any rank on. What is public has no `requires`.
 mod block;
 mod listing;
-mod run;
+mod series;
 
 pub use listing::Charted;
 pub use listing::list;

@@ -2,9 +2,9 @@
 use crate::block::Block;
 use crate::block::block_of;
 use crate::block::fill_block;
+use crate::block::fitting;
 use crate::block::size;
 ghost use mathlib.Core.Path.{_≡_};
-ghost use Prim.Native.Nat.{min};
 ghost use lib.ListN.{length};
 ghost use Rattle.chart.specs.Piece.{saysCharted, outcome, chartInto};
 ghost use Rattle.chart.specs.Writing.{ProgressFits, Continues};
@@ -24,17 +24,6 @@ pub struct Progress {
     pub total: u32,
     pub skip: u32,
     pub written: usize,
-}
-
-// As many orders as there are, or as there is room for.
-fn fitting(orders: u32, room: usize) -> u32
-    ensures { λ r. ⌜ r ≡ min orders room ⌝ }
-{
-    let most = orders as usize;
-    if room < most {
-        return room as u32;
-    }
-    orders
 }
 
 // A block more, in a buffer that has room for so many orders.

@@ -7,15 +7,9 @@ use borrow.Author.Needs.{needs}
 use lib.ListN.{length}
 use Rattle.chart.specs.Block.{ordersIn}
 use Rattle.chart.specs.Writing.{Writing, writing, put}
-use Rattle.chart.proofs.Remaining.{BlockLeft, place-small, block-on, block-end}
+use Rattle.chart.proofs.Left.{BlockLeft, place-small, block-on, block-end}
 use Rattle.chart.proofs.block.fill_block.Statement.{statement}
 use Rattle.chart.proofs.block.fill_block.Tie as tie
-use Rattle.chart.proofs.block.fill_block.Reads as reads
-use Rattle.chart.proofs.block.fill_block.Lts as lts
-use Rattle.chart.proofs.block.next_pair.Reads as next-pair-reads
-use Rattle.chart.proofs.block.place_at.Reads as place-at-reads
-use Rattle.chart.proofs.block.smaller.Reads as smaller-reads
-use Rattle.chart.proofs.run.fill_run.Reads as fill-run-reads
 
 abbrev Inv-loop : tie.InvT-loop
 Inv-loop cells₀ count b i m p₀ left₀ done₀ cells p left done = BlockLeft (put (ordersIn b i m) (writing cells₀ count)) (length cells₀) b p left (writing cells done)
@@ -39,33 +33,36 @@ loop-holds c =
       puts = ap (λ (i : ℕ). put (ordersIn (s .args .b) i (s .args .m)) (writing (s .args .cells .now) (s .args .count))) (found .0);
     }
 
-sub-smaller : tie.Need-sub-smaller Inv-loop μ-loop
-sub-smaller c = let r = c .before .before .before .loop .inv in omega (arith, r .inside .at)
+sub-fitting : tie.Need-sub-fitting Inv-loop μ-loop
+sub-fitting c = let r = c .before .before .before .loop .inv in omega (arith, r .inside .at)
 
-smaller-requires : tie.Need-smaller-requires Inv-loop μ-loop
-smaller-requires c κs = search needs
+cast-fitting : tie.Need-cast-fitting Inv-loop μ-loop
+cast-fitting c = search needs
 
-cast-t13 : tie.Need-cast-t13 Inv-loop μ-loop
-cast-t13 c =
-    let small = place-small _ _ _ _ _ _ (c .before .before .before .before .before .loop .inv) (c .before .before .before .before .loop-test .taken) (c .before .before .before .before .before .before .before .before .pre .small) in
-    record { fits = omega arith }
+fitting-requires : tie.Need-fitting-requires Inv-loop μ-loop
+fitting-requires c κs = search needs
 
 cast-t14 : tie.Need-cast-t14 Inv-loop μ-loop
 cast-t14 c =
-    let small = place-small _ _ _ _ _ _ (c .before .before .before .before .before .before .loop .inv) (c .before .before .before .before .before .loop-test .taken) (c .before .before .before .before .before .before .before .before .before .pre .small) in
+    let small = place-small _ _ _ _ _ _ (c .before .before .before .before .before .loop .inv) (c .before .before .before .before .loop-test .taken) (c .before .before .before .before .before .before .before .before .pre .small) in
     record { fits = omega arith }
 
 cast-t15 : tie.Need-cast-t15 Inv-loop μ-loop
 cast-t15 c =
+    let small = place-small _ _ _ _ _ _ (c .before .before .before .before .before .before .loop .inv) (c .before .before .before .before .before .loop-test .taken) (c .before .before .before .before .before .before .before .before .before .pre .small) in
+    record { fits = omega arith }
+
+cast-t16 : tie.Need-cast-t16 Inv-loop μ-loop
+cast-t16 c =
     let small = place-small _ _ _ _ _ _ (c .before .before .before .before .before .before .before .loop .inv) (c .before .before .before .before .before .before .loop-test .taken) (c .before .before .before .before .before .before .before .before .before .before .pre .small) in
     record { fits = omega arith }
 
-fill-run-requires : tie.Need-fill-run-requires Inv-loop μ-loop
-fill-run-requires c κs =
+fill-series-requires : tie.Need-fill-series-requires Inv-loop μ-loop
+fill-series-requires c κs =
     let a = c .before .before .before .before .before .before .before .before in
     let r = a .loop .inv in
     let b = a .before .before .before .args .b in
-    let k = c .before .before .before .before .smaller .ensures in
+    let k = c .before .before .before .before .fitting .ensures in
     record {
       room = omega (arith, r .room, r .same, k, min-le-left (a .loop .left) (b .ats - a .loop .p .at));
       cells = omega (arith, r .inside .at, k, min-le-right (a .loop .left) (b .ats - a .loop .p .at), a .before .before .before .pre .small .ats);
@@ -74,7 +71,7 @@ fill-run-requires c κs =
 sub-left : tie.Need-sub-left Inv-loop μ-loop
 sub-left c =
     let a = c .before .before .before .before .before .before .before .before .before .before .before .loop in
-    omega (arith, c .before .before .before .before .before .before .before .smaller .ensures, min-le-left (a .left) (c .before .before .before .before .before .before .before .before .before .before .before .before .before .before .args .b .ats - a .p .at))
+    omega (arith, c .before .before .before .before .before .before .before .fitting .ensures, min-le-left (a .left) (c .before .before .before .before .before .before .before .before .before .before .before .before .before .before .args .b .ats - a .p .at))
 
 next-pair-requires : tie.Need-next-pair-requires Inv-loop μ-loop
 next-pair-requires c κs =
@@ -84,15 +81,15 @@ next-pair-requires c κs =
 loop-less : tie.Need-loop-less Inv-loop μ-loop
 loop-less c =
     let a = c .before .before .before .before .before .before .before .before .before .before .before .before .loop in
-    omega (arith, c .before .before .before .before .before .before .before .before .smaller .ensures, c .before .before .before .before .before .before .before .before .before .before .before .loop-test .taken, a .inv .inside .at)
+    omega (arith, c .before .before .before .before .before .before .before .before .fitting .ensures, c .before .before .before .before .before .before .before .before .before .before .before .loop-test .taken, a .inv .inside .at)
 
 loop-again : tie.Need-loop-again Inv-loop μ-loop
 loop-again c =
     let a = c .before .before .before .before .before .before .before .before .before .before .before .before in
     let r = a .loop .inv in
     let q = c .next-pair .ensures in
-    let on = block-on _ _ _ _ _ _ r (c .before .before .before .before .before .before .before .before .before .before .before .loop-test .taken) (c .next-pair .result) (c .before .before .before .before .before .before .before .before .smaller .result) (c .before .before .before .before .before .before .before .before .smaller .ensures) (q .0) (q .1) in
-    rw (c .before .before .before .fill-run .ensures) on
+    let on = block-on _ _ _ _ _ _ r (c .before .before .before .before .before .before .before .before .before .before .before .loop-test .taken) (c .next-pair .result) (c .before .before .before .before .before .before .before .before .fitting .result) (c .before .before .before .before .before .before .before .before .fitting .ensures) (q .0) (q .1) in
+    rw (c .before .before .before .fill-series .ensures) on
 
 same-length : tie.Need-same-length Inv-loop μ-loop
 same-length c = c .before .loop .inv .same
@@ -108,12 +105,13 @@ fill-block-spec =
     μ-loop
     place-at-requires
     loop-holds
-    sub-smaller
-    smaller-requires
-    cast-t13
+    sub-fitting
+    cast-fitting
+    fitting-requires
     cast-t14
     cast-t15
-    fill-run-requires
+    cast-t16
+    fill-series-requires
     sub-left
     next-pair-requires
     loop-less

@@ -4,8 +4,6 @@ use borrow.Author.Needs.{needs}
 use Rattle.chart.proofs.Places.{next-r2, next-r1}
 use Rattle.chart.proofs.block.next_pair.Statement.{statement}
 use Rattle.chart.proofs.block.next_pair.Tie as tie
-use Rattle.chart.proofs.block.next_pair.Reads as reads
-use Rattle.chart.proofs.block.next_pair.Lts as lts
 
 add-r2 : tie.Need-add-r2
 add-r2 c = search needs

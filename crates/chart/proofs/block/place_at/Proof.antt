@@ -4,8 +4,6 @@ use native.Mathlib.Nat.{mod-lt}
 use Rattle.chart.proofs.Places.{some-r2, some-at, place-again}
 use Rattle.chart.proofs.block.place_at.Statement.{statement}
 use Rattle.chart.proofs.block.place_at.Tie as tie
-use Rattle.chart.proofs.block.place_at.Reads as reads
-use Rattle.chart.proofs.block.place_at.Lts as lts
 
 div-pair : tie.Need-div-pair
 div-pair c = some-at (c .before .args .b) (c .before .args .i) (c .before .pre)

@@ -10,10 +10,6 @@ use Rattle.chart.specs.Writing.{writing, put}
 use Rattle.chart.proofs.Charting.{ChartLeft, chart-start, chart-fits, chart-on, chart-answer}
 use Rattle.chart.proofs.listing.list.Statement.{statement}
 use Rattle.chart.proofs.listing.list.Tie as tie
-use Rattle.chart.proofs.listing.list.Reads as reads
-use Rattle.chart.proofs.listing.list.Lts as lts
-use Rattle.chart.proofs.block.block_of.Reads as block-of-reads
-use Rattle.chart.proofs.listing.with_block.Reads as with-block-reads
 
 abbrev Inv-loop : tie.InvT-loop
 Inv-loop n rank cells₀ room s₀ code₀ cells s code =

@@ -7,11 +7,6 @@ use Rattle.chart.proofs.Shown.{size-below, shown-skipped, shown-full, s
 use borrow.Author.Needs.{needs}
 use Rattle.chart.proofs.listing.with_block.Statement.{statement}
 use Rattle.chart.proofs.listing.with_block.Tie as tie
-use Rattle.chart.proofs.listing.with_block.Reads as reads
-use Rattle.chart.proofs.listing.with_block.Lts as lts
-use Rattle.chart.proofs.block.fill_block.Reads as fill-block-reads
-use Rattle.chart.proofs.block.size.Reads as size-reads
-use Rattle.chart.proofs.listing.fitting.Reads as fitting-reads
 
 size-requires : tie.Need-size-requires
 size-requires c κs = search needs

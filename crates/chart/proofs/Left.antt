@@ -11,26 +11,26 @@ use Rattle.hexfloat.proofs.Trichotomy.{below-or-not}
 use Rattle.orders.specs.declared.order.Order.{Order}
 use Rattle.chart.specs.declared.block.Block.{Block}
 use Rattle.chart.specs.declared.block.Place.{Place}
-use Rattle.chart.specs.Block.{run, orderIn, ordersIn, sizeOf, placeIn, Inside, Small}
+use Rattle.chart.specs.Block.{series, orderIn, ordersIn, sizeOf, placeIn, Inside, Small}
 use Rattle.chart.specs.Chart.{order, listedFrom}
 use Rattle.chart.specs.Piece.{cellsOf}
-use Rattle.chart.specs.Writing.{Writing, writing, withOrder, put, RunFits}
+use Rattle.chart.specs.Writing.{Writing, writing, withOrder, put, SeriesFits}
 use Rattle.chart.proofs.Listed.{listed-alike, listed-joined, singles-length}
 use Rattle.chart.proofs.Places.{order-there, r1-below}
 use Rattle.chart.proofs.Written.{put-joined, put-length, put-count}
 
-pub record RunLeft (goal : Writing) (l : ℕ) (o : Order) (left : ℕ) (s : Writing) : Type 0 where
+pub record SeriesLeft (goal : Writing) (l : ℕ) (o : Order) (left : ℕ) (s : Writing) : Type 0 where
   pub same : length (s .cells) ≡ l
-  pub fits : RunFits l (s .count) (o .at) left
-  pub puts : put (run o left) s ≡ goal
+  pub fits : SeriesFits l (s .count) (o .at) left
+  pub puts : put (series o left) s ≡ goal
 
 module _ (goal : Writing) (l : ℕ) where
-  -- an order of a run more
-  pub run-on :
-      (c a b at end : ℕ) (s : Writing) → at < end → RunLeft goal l (order c a b at) (end - at) s →
-      RunLeft goal l (order c a b (at + 1)) (end - (at + 1)) (withOrder (order c a b at) s)
+  -- an order of a series more
+  pub series-on :
+      (c a b at end : ℕ) (s : Writing) → at < end → SeriesLeft goal l (order c a b at) (end - at) s →
+      SeriesLeft goal l (order c a b (at + 1)) (end - (at + 1)) (withOrder (order c a b at) s)
   unfolding listedFrom put
-  run-on c a b at end s h r =
+  series-on c a b at end s h r =
       let e : end - at ≡ suc (end - suc at) = omega arith in
       let t : at + 1 ≡ suc at = omega arith in
       record {
@@ -39,9 +39,9 @@ module _ (goal : Writing) (l : ℕ) where
         puts = rw t (rw e at (r .puts));
       }
 
-  pub run-end : (o : Order) (k : ℕ) (s : Writing) → k ≡ 0 → RunLeft goal l o k s → s ≡ goal
+  pub series-end : (o : Order) (k : ℕ) (s : Writing) → k ≡ 0 → SeriesLeft goal l o k s → s ≡ goal
   unfolding listedFrom put
-  run-end o k s e r = rw e at (r .puts)
+  series-end o k s e r = rw e at (r .puts)
 
 pub record BlockLeft (goal : Writing) (l : ℕ) (b : Block) (p : Place) (left : ℕ) (s : Writing) : Type 0 where
   pub same : length (s .cells) ≡ l
@@ -57,8 +57,8 @@ pub record SmallPlace (p : Place) : Type 0 where
   pub at : p .at < 65536
 
 -- from a place on, as far as the next pair of r1 and r2
-run-there : (b : Block) (p : Place) (k : ℕ) → Inside b p → p .at + k ≤ b .ats → ordersIn b (placeIn b p) k ≡ run (order (b .code) (p .r1) (p .r2) (p .at)) k
-run-there b p k inside h =
+series-there : (b : Block) (p : Place) (k : ℕ) → Inside b p → p .at + k ≤ b .ats → ordersIn b (placeIn b p) k ≡ series (order (b .code) (p .r1) (p .r2) (p .at)) k
+series-there b p k inside h =
     listed-alike k (placeIn b p) (p .at) (λ j. orderIn b j ∷ []) (λ t. order (b .code) (p .r1) (p .r2) t ∷ [])
     (λ j l. ap (λ (o : Order). o ∷ []) (order-there b p j (inside .r2) (omega arith)))
 
@@ -69,7 +69,7 @@ module _ (goal : Writing) (l : ℕ) (b : Block) (p : Place) (left : ℕ) (s : Wr
       let row = r1-below b p (omega (arith, r .within some)) in
       record { r1 = omega (arith, small .r1s); r2 = omega (arith, r .inside .r2, small .r2s); at = omega (arith, r .inside .at, small .ats) }
 
-  -- a run more, to the next pair or to the end of what is left
+  -- a series more, to the next pair or to the end of what is left
   module _ (q : Place) (k : ℕ) (least : k ≡ min left (b .ats - p .at)) (next : placeIn b q ≡ placeIn b p + (b .ats - p .at)) where
     reached : (left - k ≡ 0) ⊎ (placeIn b q ≡ placeIn b p + k)
     reached =
@@ -84,19 +84,19 @@ module _ (goal : Writing) (l : ℕ) (b : Block) (p : Place) (left : ℕ) (s : Wr
     unfolding listedFrom
     orders-on = ⊎-elim (λ e. rw e) (λ e. rw e) reached
 
-    pub block-on : Inside b q → BlockLeft goal l b q (left - k) (put (run (order (b .code) (p .r1) (p .r2) (p .at)) k) s)
+    pub block-on : Inside b q → BlockLeft goal l b q (left - k) (put (series (order (b .code) (p .r1) (p .r2) (p .at)) k) s)
     block-on inside =
         let o = order (b .code) (p .r1) (p .r2) (p .at) in
-        let here = run-there b p k (r .inside) (omega (arith, least, min-le-right left (b .ats - p .at), r .inside .at)) in
-        let count = put-count (run o k) s ∙ ap (λ (n : ℕ). s .count + n) (singles-length (λ t. order (b .code) (p .r1) (p .r2) t) k (p .at)) in
+        let here = series-there b p k (r .inside) (omega (arith, least, min-le-right left (b .ats - p .at), r .inside .at)) in
+        let count = put-count (series o k) s ∙ ap (λ (n : ℕ). s .count + n) (singles-length (λ t. order (b .code) (p .r1) (p .r2) t) k (p .at)) in
         let e : left ≡ k + (left - k) = omega (arith, fewer) in
         record {
-          same = put-length (run o k) s ∙ r .same;
+          same = put-length (series o k) s ∙ r .same;
           room = omega (arith, count, fewer, r .room);
           inside = inside;
           within = λ h. ⊎-elim (λ e. absurd (omega arith)) (λ e. omega (arith, fewer, r .within some)) reached;
           puts =
-              ap (λ (os : List Order). put os (put (run o k) s)) orders-on
+              ap (λ (os : List Order). put os (put (series o k) s)) orders-on
               ∙ ap (λ (os : List Order). put (ordersIn b (placeIn b p + k) (left - k)) (put os s)) (sym here)
               ∙ sym (put-joined (ordersIn b (placeIn b p) k) (ordersIn b (placeIn b p + k) (left - k)) s)
               ∙ ap (λ (os : List Order). put os s) (sym (listed-joined k (left - k) (placeIn b p) (λ j. orderIn b j ∷ [])))

@@ -3,8 +3,8 @@ use orders::Order;
 ghost use mathlib.Core.Path.{_≡_};
 ghost use Prim.Native.Nat.{_+_, _*_, _≤_};
 ghost use lib.ListN.{length};
-ghost use Rattle.chart.specs.Block.{run};
-ghost use Rattle.chart.specs.Writing.{writing, withOrder, put, RunFits};
+ghost use Rattle.chart.specs.Block.{series};
+ghost use Rattle.chart.specs.Writing.{writing, withOrder, put, SeriesFits};
 
 // Writes an order after the `count` that are there; how many there are then.
 fn put_order(cells: &mut [u16], count: usize, o: Order) -> usize
@@ -20,9 +20,9 @@ fn put_order(cells: &mut [u16], count: usize, o: Order) -> usize
 }
 
 // Writes m orders: the first, and then with `at` rising by one.
-pub fn fill_run(cells: &mut [u16], count: usize, first: Order, m: u32) -> usize
-    requires { ⌜ RunFits (length (now cells)) count (first .at) m ⌝ }
-    ensures { λ r. ⌜ writing (now (cells .exit)) r ≡ put (run first m) (writing (now (cells .entry)) count) ⌝ }
+pub fn fill_series(cells: &mut [u16], count: usize, first: Order, m: u32) -> usize
+    requires { ⌜ SeriesFits (length (now cells)) count (first .at) m ⌝ }
+    ensures { λ r. ⌜ writing (now (cells .exit)) r ≡ put (series first m) (writing (now (cells .entry)) count) ⌝ }
 {
     let mut at = first.at as u32;
     let end = at + m;

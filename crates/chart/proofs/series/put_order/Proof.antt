@@ -1,13 +1,11 @@
--- `chart::run::put_order` meets its contract. Assumes nothing.
+-- `chart::series::put_order` meets its contract. Assumes nothing.
 use Prim.Native.Nat.{suc, _+_, _*_}
 use mathlib.Core.Path.{_≡_}
 use native.Mathlib.Omega.{arith}
 use lib.ListN.{length-set}
 use borrow.Author.Needs.{needs}
-use Rattle.chart.proofs.run.put_order.Statement.{statement}
-use Rattle.chart.proofs.run.put_order.Tie as tie
-use Rattle.chart.proofs.run.put_order.Reads as reads
-use Rattle.chart.proofs.run.put_order.Lts as lts
+use Rattle.chart.proofs.series.put_order.Statement.{statement}
+use Rattle.chart.proofs.series.put_order.Tie as tie
 
 mul-p : tie.Need-mul-p
 mul-p c = search needs

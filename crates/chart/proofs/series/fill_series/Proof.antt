@@ -1,23 +1,20 @@
--- `chart::run::fill_run` meets its contract: what is left of the run, written from here, is the whole run from the start. Assumes nothing.
+-- `chart::series::fill_series` meets its contract: what is left of the series, written from here, is the whole series from the start. Assumes nothing.
 use Prim.Native.Nat.{ℕ, _+_, _-_, _≤_}
 use mathlib.Core.Path.{_≡_, refl, sym, subst}
 use native.Mathlib.Omega.{arith}
 use borrow.Author.Needs.{needs}
 use lib.ListN.{length}
-use Rattle.chart.specs.Block.{run}
+use Rattle.chart.specs.Block.{series}
 use Rattle.chart.specs.Chart.{order}
 use Rattle.chart.specs.Writing.{Writing, writing, put}
-use Rattle.chart.proofs.Remaining.{RunLeft, run-on, run-end}
-use Rattle.chart.proofs.run.fill_run.Statement.{statement}
-use Rattle.chart.proofs.run.fill_run.Tie as tie
-use Rattle.chart.proofs.run.fill_run.Reads as reads
-use Rattle.chart.proofs.run.fill_run.Lts as lts
-use Rattle.chart.proofs.run.put_order.Reads as put-order-reads
+use Rattle.chart.proofs.Left.{SeriesLeft, series-on, series-end}
+use Rattle.chart.proofs.series.fill_series.Statement.{statement}
+use Rattle.chart.proofs.series.fill_series.Tie as tie
 
 abbrev Inv-loop : tie.InvT-loop
 Inv-loop cells₀ count first m at₀ end done₀ cells at done =
     (at ≤ end)
-    × RunLeft (put (run first m) (writing cells₀ count)) (length cells₀) (order (first .code) (first .r1) (first .r2) at) (end - at) (writing cells done)
+    × SeriesLeft (put (series first m) (writing cells₀ count)) (length cells₀) (order (first .code) (first .r1) (first .r2) at) (end - at) (writing cells done)
 
 abbrev μ-loop : tie.MeasureT-loop
 μ-loop cells₀ count first m at₀ end done₀ cells at done = end - at
@@ -52,9 +49,9 @@ loop-again c =
     let entry = c .before .before .before .before in
     let at = entry .before .loop in
     let a = entry .before .before .before .before .args in
-    let goal = put (run (a .first) (a .m)) (writing (a .cells .now) (a .count)) in
-    let on = run-on goal (length (a .cells .now)) (a .first .code) (a .first .r1) (a .first .r2) (at .at) (a .first .at + a .m) (writing (at .cells) (at .done)) (entry .loop-test .taken) (at .inv .1) in
-    (omega arith, subst (λ (s : Writing). RunLeft goal (length (a .cells .now)) (order (a .first .code) (a .first .r1) (a .first .r2) (at .at + 1)) (a .first .at + a .m - (at .at + 1)) s) (sym (c .before .before .put-order .ensures)) on)
+    let goal = put (series (a .first) (a .m)) (writing (a .cells .now) (a .count)) in
+    let on = series-on goal (length (a .cells .now)) (a .first .code) (a .first .r1) (a .first .r2) (at .at) (a .first .at + a .m) (writing (at .cells) (at .done)) (entry .loop-test .taken) (at .inv .1) in
+    (omega arith, subst (λ (s : Writing). SeriesLeft goal (length (a .cells .now)) (order (a .first .code) (a .first .r1) (a .first .r2) (at .at + 1)) (a .first .at + a .m - (at .at + 1)) s) (sym (c .before .before .put-order .ensures)) on)
 
 same-length : tie.Need-same-length Inv-loop μ-loop
 same-length c = c .before .loop .inv .1 .same
@@ -63,10 +60,10 @@ returns : tie.Need-returns Inv-loop μ-loop
 returns c =
     let at = c .before .loop in
     let a = c .before .before .before .before .args in
-    run-end _ _ _ _ _ (omega (arith, c .loop-test .left)) (at .inv .1)
+    series-end _ _ _ _ _ (omega (arith, c .loop-test .left)) (at .inv .1)
 
-pub fill-run-spec : {M : Type 1} → statement M
-fill-run-spec =
+pub fill-series-spec : {M : Type 1} → statement M
+fill-series-spec =
     tie.close
     (tie.spec
     Inv-loop
