@@ -43,6 +43,13 @@ typedef struct {
     uint32_t values[4]; /* 5: the cell, 0 code, 1 r1, 2 r2, 3 at; 6, 7: the address; 8 to 11: the operands' words */
 } panel_cause;
 
+/* What panel_chart answers. On a refusal both counts are 0. */
+typedef struct {
+    uint32_t number;  /* 0, or 19 */
+    uint32_t total;   /* how many orders the chart has */
+    uint32_t written; /* how many of them were written */
+} panel_piece;
+
 /* Makes the state fresh. Returns nothing. */
 void panel_fresh(panel_state *state);
 
@@ -82,5 +89,12 @@ panel_cause panel_why(const panel_state *state, const uint16_t *deck, size_t dec
  * and leaves the other bits of the byte; it is a 17 where that byte is not there. */
 panel_answer panel_read(const uint8_t *text, size_t text_bytes, uint16_t *cells, size_t cells_count, uint16_t *memory,
                         size_t memory_halfwords, uint8_t *protect, size_t protect_bytes);
+
+/* Writes a piece of the chart of legal orders into cells, from the front, four cells an order (code, r1, r2, at): every
+ * order that passes check 5 with `at` below bound where it is in use, each once, rising by code, then r1, r2, at. The piece
+ * begins at rank, counted from 0, and ends with the chart or where the cells are full; from the total on it is empty. Cells
+ * past it stay. The number is 0, or 19 where cells_count is no multiple of 4; then nothing is written. The time is that of
+ * the orders written, wherever the piece begins. */
+panel_piece panel_chart(uint16_t bound, uint32_t rank, uint16_t *cells, size_t cells_count);
 
 #endif
