@@ -1,19 +1,18 @@
 -- Which orders belong to the chart, by the row of their code.
-use Prim.Native.Nat.{ℕ, _+_, _<_, _≤_}
+use Prim.Native.Nat.{ℕ, _<_, _≤_}
 use mathlib.Core.Path.{_≡_, refl, sym, ap, subst, _∙_}
-use mathlib.Core.List.{List, [], _∷_}
+use mathlib.Core.List.{[], _∷_}
 use mathlib.Core.Logic.{_⊎_, inl, inr, ⊎-elim}
 use mathlib.Core.Bool.{Bool, true, false, cond, _&&_, _||_}
 use lib.Dec.{eqb, leb, ltb}
 use native.Mathlib.Omega.{arith}
-use borrow.Author.Tests.{leb-true, leb-false, ltb-true, eqb-true, lt-ltb, le-leb, lt-leb, eqb-false}
-use Rattle.hexfloat.specs.Answer.{Answer, gives, stops, provided}
-use Rattle.hexfloat.proofs.Answers.{gives-inj, never, both}
-use Rattle.hexfloat.proofs.Trichotomy.{below-or-not}
+use borrow.Author.Tests.{leb-true, leb-false, ltb-true, eqb-true, lt-ltb, le-leb}
+use Rattle.hexfloat.specs.Answer.{Answer, gives, stops}
+use Rattle.hexfloat.proofs.Answers.{gives-inj, both}
 use Rattle.orders.specs.declared.order.Operation.{Operation}
 use Rattle.orders.specs.declared.order.Order.{Order}
 use Rattle.orders.specs.Order.{rows, operationOf, withinLimits, legalOf}
-use Rattle.orders.proofs.Passing.{legal-row}
+use Rattle.orders.proofs.Passing.{legal-row, within-limited}
 use Rattle.orders.proofs.Table.{allRows, row-passes}
 use Rattle.chart.specs.Block.{atsOf}
 use Rattle.chart.specs.Chart.{passing, atBelow, belongs, ifBelongs}
@@ -51,21 +50,6 @@ row-known c op h =
       at = ⊎-elim (λ e. inl (eqb-true (op .at) 0 e)) (λ e. inr (eqb-true (op .at) 65535 e)) (either (eqb (op .at) 0) (eqb (op .at) 65535) (d .1));
     }
 
--- an order that passes check 5: the row of its code, and every cell within its limit
-pub record Legal (op : Operation) (o : Order) : Type 0 where
-  pub row : operationOf (o .code) ≡ gives op
-  pub r1 : o .r1 ≤ op .r1
-  pub r2 : o .r2 ≤ op .r2
-  pub at : o .at ≤ op .at
-
-pub legal-known : (o : Order) (op : Operation) → legalOf o ≡ gives op → Legal op o
-unfolding withinLimits
-legal-known o op h =
-    let q = legal-row o op h in
-    let a = both (leb (o .r1) (op .r1)) (leb (o .r2) (op .r2) && leb (o .at) (op .at)) (q .1) in
-    let b = both (leb (o .r2) (op .r2)) (leb (o .at) (op .at)) (a .1) in
-    record { row = q .0; r1 = leb-true (o .r1) (op .r1) (a .0); r2 = leb-true (o .r2) (op .r2) (b .0); at = leb-true (o .at) (op .at) (b .1) }
-
 -- an order whose cells are those of a row, where the bound is n
 pub record Within (n : ℕ) (op : Operation) (o : Order) : Type 0 where
   pub r1 : o .r1 ≤ op .r1
@@ -75,8 +59,8 @@ pub record Within (n : ℕ) (op : Operation) (o : Order) : Type 0 where
 module _ (n : ℕ) (o : Order) (op : Operation) (row : operationOf (o .code) ≡ gives op) where
   pub belongs-within : Belongs n o → Within n op o
   belongs-within h =
-      let same : h .operation ≡ op = gives-inj (sym (legal-known o (h .operation) (h .legal) .row) ∙ row) in
-      let k = legal-known o op (h .legal ∙ ap gives same) in
+      let same : h .operation ≡ op = gives-inj (sym (legal-row o (h .operation) (h .legal) .0) ∙ row) in
+      let k = within-limited op o (legal-row o op (h .legal ∙ ap gives same) .1) in
       let l : (op .at ≡ 0 → ⊥) → o .at < n = subst (λ (x : Operation). (x .at ≡ 0 → ⊥) → o .at < n) same (h .below) in
       record {
         r1 = k .r1;
@@ -87,7 +71,8 @@ module _ (n : ℕ) (o : Order) (op : Operation) (row : operationOf (o .code) ≡
   pub within-belongs : n ≤ 65536 → Within n op o → Belongs n o
   unfolding legalOf withinLimits
   within-belongs small w =
-      let t : o .at ≤ op .at = ⊎-elim (λ e. let k : o .at < 1 = rw e at (w .at) in omega arith) (λ e. let k : o .at < n = rw e at (w .at) in omega arith) (row-known (o .code) op row .at) in
+      let t : o .at ≤ op .at =
+      ⊎-elim (λ e. let k : o .at < 1 = rw e at (w .at) in omega arith) (λ e. let k : o .at < n = rw e at (w .at) in omega arith) (row-known (o .code) op row .at) in
       record {
         operation = op;
         legal = rw (row, le-leb (o .r1) (op .r1) (w .r1), le-leb (o .r2) (op .r2) (w .r2), le-leb (o .at) (op .at) t);
@@ -116,18 +101,6 @@ module _ (n : ℕ) (o : Order) where
       cases true e = refl
       cases false e = lt-ltb (o .at) n (h .below (λ z. let l = leb-false (h .operation .at) 0 e in omega arith))
 
-  pub belongs-once : Belongs n o → ifBelongs n o ≡ o ∷ []
-  unfolding ifBelongs
-  belongs-once h = rw (belongs-true h)
-
-  pub belongs-not : (Belongs n o → ⊥) → ifBelongs n o ≡ []
-  unfolding ifBelongs
-  belongs-not out = cases (belongs n o) refl
-    where
-      cases : (b : Bool) → belongs n o ≡ b → cond b (o ∷ []) [] ≡ []
-      cases true e = absurd (out (true-belongs e))
-      cases false e = refl
-
   -- it is there once and belongs, or is not there
   pub belongs-cases : ((ifBelongs n o ≡ o ∷ []) × Belongs n o) ⊎ (ifBelongs n o ≡ [])
   unfolding ifBelongs
@@ -136,3 +109,10 @@ module _ (n : ℕ) (o : Order) where
       cases : (b : Bool) → belongs n o ≡ b → ((cond b (o ∷ []) [] ≡ o ∷ []) × Belongs n o) ⊎ (cond b (o ∷ []) [] ≡ [])
       cases true e = inl (refl, true-belongs e)
       cases false e = inr refl
+
+  pub belongs-once : Belongs n o → ifBelongs n o ≡ o ∷ []
+  unfolding ifBelongs
+  belongs-once h = rw (belongs-true h)
+
+  pub belongs-not : (Belongs n o → ⊥) → ifBelongs n o ≡ []
+  belongs-not out = ⊎-elim (λ q. absurd (out (q .1))) (λ e. e) belongs-cases

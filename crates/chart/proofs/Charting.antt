@@ -1,7 +1,7 @@
 -- The chart, block after block: what is left of it, written from here, is the piece that is asked for.
 use Prim.Native.Nat.{ℕ, suc, _+_, _*_, _-_, _/_, _%_, _<_, _≤_}
 use mathlib.Core.Path.{_≡_, refl, sym, ap, _∙_}
-use mathlib.Core.List.{List, [], _∷_, _++_}
+use mathlib.Core.List.{List, [], _++_}
 use lib.ListN.{length, take, drop, length-append, length-take, length-drop}
 use lib.Seq.{take-nil, drop-nil}
 use native.Mathlib.Nat.{zero-add, sub-zero}
@@ -12,7 +12,7 @@ use Rattle.orders.specs.declared.order.Order.{Order}
 use Rattle.chart.specs.declared.listing.Progress.{Progress}
 use Rattle.chart.specs.Block.{blockOf, sizeOf, allOrders}
 use Rattle.chart.specs.Chart.{listedFrom, chart}
-use Rattle.chart.specs.Piece.{Counts, piece, filled, Outcome, outcome, chartInto}
+use Rattle.chart.specs.Piece.{piece, filled, outcome, chartInto}
 use Rattle.chart.specs.Writing.{Writing, writing, put, shown, ProgressFits, Continues}
 use Rattle.chart.proofs.Blocks.{blocksFrom, block-small, chart-blocks}
 use Rattle.chart.proofs.Shown.{size-below, orders-length, part-both}

@@ -1,8 +1,8 @@
 -- What is left to write: in each loop the orders that are left, written from here, make `goal`. l is the buffer's length.
 use Prim.Native.Nat.{ℕ, suc, _+_, _*_, _-_, _<_, _≤_, min}
-use mathlib.Core.Path.{_≡_, refl, sym, ap, subst, _∙_}
+use mathlib.Core.Path.{_≡_, sym, ap, _∙_}
 use mathlib.Core.Logic.{_⊎_, inl, inr, ⊎-elim}
-use mathlib.Core.List.{List, [], _∷_, _++_}
+use mathlib.Core.List.{List, [], _∷_}
 use lib.ListN.{length}
 use lib.Seq.{length-sets}
 use native.Mathlib.Nat.{le-of-lt, min-eq-left, min-eq-right, min-le-left, min-le-right}
@@ -11,11 +11,11 @@ use Rattle.hexfloat.proofs.Trichotomy.{below-or-not}
 use Rattle.orders.specs.declared.order.Order.{Order}
 use Rattle.chart.specs.declared.block.Block.{Block}
 use Rattle.chart.specs.declared.block.Place.{Place}
-use Rattle.chart.specs.Block.{series, orderIn, ordersIn, sizeOf, placeIn, Inside, Small}
+use Rattle.chart.specs.Block.{series, orderIn, ordersIn, sizeOf, placeIn, Inside, Small, SmallPlace, orderWith}
 use Rattle.chart.specs.Chart.{order, listedFrom}
 use Rattle.chart.specs.Piece.{cellsOf}
-use Rattle.chart.specs.Writing.{Writing, writing, withOrder, put, SeriesFits}
-use Rattle.chart.proofs.Listed.{listed-alike, listed-joined, singles-length}
+use Rattle.chart.specs.Writing.{Writing, withOrder, put, SeriesFits}
+use Rattle.chart.proofs.Listed.{listed-alike, listed-split, singles-length}
 use Rattle.chart.proofs.Places.{order-there, r1-below}
 use Rattle.chart.proofs.Written.{put-joined, put-length, put-count}
 
@@ -50,14 +50,8 @@ pub record BlockLeft (goal : Writing) (l : ℕ) (b : Block) (p : Place) (left : 
   pub within : 0 < left → placeIn b p + left ≤ sizeOf b
   pub puts : put (ordersIn b (placeIn b p) left) s ≡ goal
 
--- a place whose numbers cells can hold
-pub record SmallPlace (p : Place) : Type 0 where
-  pub r1 : p .r1 < 8
-  pub r2 : p .r2 < 8
-  pub at : p .at < 65536
-
 -- from a place on, as far as the next pair of r1 and r2
-series-there : (b : Block) (p : Place) (k : ℕ) → Inside b p → p .at + k ≤ b .ats → ordersIn b (placeIn b p) k ≡ series (order (b .code) (p .r1) (p .r2) (p .at)) k
+series-there : (b : Block) (p : Place) (k : ℕ) → Inside b p → p .at + k ≤ b .ats → ordersIn b (placeIn b p) k ≡ series (orderWith b p) k
 series-there b p k inside h =
     listed-alike k (placeIn b p) (p .at) (λ j. orderIn b j ∷ []) (λ t. order (b .code) (p .r1) (p .r2) t ∷ [])
     (λ j l. ap (λ (o : Order). o ∷ []) (order-there b p j (inside .r2) (omega arith)))
@@ -84,12 +78,11 @@ module _ (goal : Writing) (l : ℕ) (b : Block) (p : Place) (left : ℕ) (s : Wr
     unfolding listedFrom
     orders-on = ⊎-elim (λ e. rw e) (λ e. rw e) reached
 
-    pub block-on : Inside b q → BlockLeft goal l b q (left - k) (put (series (order (b .code) (p .r1) (p .r2) (p .at)) k) s)
+    pub block-on : Inside b q → BlockLeft goal l b q (left - k) (put (series (orderWith b p) k) s)
     block-on inside =
-        let o = order (b .code) (p .r1) (p .r2) (p .at) in
+        let o = orderWith b p in
         let here = series-there b p k (r .inside) (omega (arith, least, min-le-right left (b .ats - p .at), r .inside .at)) in
         let count = put-count (series o k) s ∙ ap (λ (n : ℕ). s .count + n) (singles-length (λ t. order (b .code) (p .r1) (p .r2) t) k (p .at)) in
-        let e : left ≡ k + (left - k) = omega (arith, fewer) in
         record {
           same = put-length (series o k) s ∙ r .same;
           room = omega (arith, count, fewer, r .room);
@@ -99,8 +92,7 @@ module _ (goal : Writing) (l : ℕ) (b : Block) (p : Place) (left : ℕ) (s : Wr
               ap (λ (os : List Order). put os (put (series o k) s)) orders-on
               ∙ ap (λ (os : List Order). put (ordersIn b (placeIn b p + k) (left - k)) (put os s)) (sym here)
               ∙ sym (put-joined (ordersIn b (placeIn b p) k) (ordersIn b (placeIn b p + k) (left - k)) s)
-              ∙ ap (λ (os : List Order). put os s) (sym (listed-joined k (left - k) (placeIn b p) (λ j. orderIn b j ∷ [])))
-              ∙ ap (λ (n : ℕ). put (ordersIn b (placeIn b p) n) s) (sym e)
+              ∙ ap (λ (os : List Order). put os s) (sym (listed-split k left (placeIn b p) (λ j. orderIn b j ∷ []) fewer))
               ∙ r .puts;
         }
 

@@ -1,9 +1,9 @@
 -- What is listed for one number after the other: cut, split, and two counts made one.
-use Prim.Native.Nat.{ℕ, zero, suc, _+_, _*_, _-_, _/_, _%_, _<_, _≤_, min}
+use Prim.Native.Nat.{ℕ, zero, suc, _+_, _*_, _-_, _/_, _%_, _<_, _≤_}
 use mathlib.Core.Path.{_≡_, refl, sym, ap, _∙_}
 use mathlib.Core.List.{List, [], _∷_, _++_, append-assoc, append-nil}
-use lib.ListN.{length, take, drop, length-append}
-use lib.Seq.{take-all, take-at, drop-at}
+use lib.ListN.{length, take, drop}
+use lib.Seq.{take-at, drop-at}
 use native.Mathlib.Nat.{zero-add, add-zero, zero-mul, suc-mul}
 use native.Mathlib.Omega.{arith}
 use Rattle.chart.specs.Chart.{listedFrom}
@@ -33,15 +33,16 @@ module _ {A : Type 0} where
       let s : suc i + m ≡ i + suc m = omega arith in
       rw (e, listed-joined m k (suc i) f, s) (sym (append-assoc (f i) (listedFrom (suc i) m f) (listedFrom (i + suc m) k f)))
 
+  pub listed-split : (s m i : ℕ) (f : ℕ → List A) → s ≤ m → listedFrom i m f ≡ listedFrom i s f ++ listedFrom (i + s) (m - s) f
+  listed-split s m i f h = let e : m ≡ s + (m - s) = omega arith in ap (λ (n : ℕ). listedFrom i n f) e ∙ listed-joined s (m - s) i f
+
   -- nothing is listed from m on
   pub listed-cut :
       (m b : ℕ) (f g : ℕ → List A) → m ≤ b → ((j : ℕ) → j < m → f j ≡ g j) → ((j : ℕ) → m ≤ j → j < b → f j ≡ []) →
       listedFrom 0 b f ≡ listedFrom 0 m g
   listed-cut m b f g h same past =
-      let e : b ≡ m + (b - m) = omega arith in
       let none = listed-none (b - m) (0 + m) f (λ j l u. past j (omega arith) (omega arith)) in
-      ap (λ (n : ℕ). listedFrom 0 n f) e
-      ∙ listed-joined m (b - m) 0 f
+      listed-split m b 0 f h
       ∙ ap (λ (l : List A). listedFrom 0 m f ++ l) none
       ∙ append-nil (listedFrom 0 m f)
       ∙ listed-alike m 0 0 f g (λ j l. rw zero-add (same j l))
@@ -66,14 +67,10 @@ module _ {A : Type 0} where
 
     pub singles-drop : (m s i : ℕ) → s ≤ m → drop s (listedFrom i m (λ j. g j ∷ [])) ≡ listedFrom (i + s) (m - s) (λ j. g j ∷ [])
     singles-drop m s i h =
-        let e : m ≡ s + (m - s) = omega arith in
-        ap (λ (n : ℕ). drop s (listedFrom i n (λ j. g j ∷ []))) e
-        ∙ ap (drop s) (listed-joined s (m - s) i (λ j. g j ∷ []))
+        ap (drop s) (listed-split s m i (λ j. g j ∷ []) h)
         ∙ drop-at (listedFrom i s (λ j. g j ∷ [])) (listedFrom (i + s) (m - s) (λ j. g j ∷ [])) s (singles-length s i)
 
     pub singles-take : (m r i : ℕ) → r ≤ m → take r (listedFrom i m (λ j. g j ∷ [])) ≡ listedFrom i r (λ j. g j ∷ [])
     singles-take m r i h =
-        let e : m ≡ r + (m - r) = omega arith in
-        ap (λ (n : ℕ). take r (listedFrom i n (λ j. g j ∷ []))) e
-        ∙ ap (take r) (listed-joined r (m - r) i (λ j. g j ∷ []))
+        ap (take r) (listed-split r m i (λ j. g j ∷ []) h)
         ∙ take-at (listedFrom i r (λ j. g j ∷ [])) (listedFrom (i + r) (m - r) (λ j. g j ∷ [])) r (singles-length r i)

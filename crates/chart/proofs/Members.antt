@@ -2,7 +2,7 @@
 use Prim.Native.Nat.{ℕ, zero, suc, _+_, _<_, _≤_}
 use mathlib.Core.Path.{_≡_, refl, sym, subst}
 use mathlib.Core.List.{List, [], _∷_, _++_, List·Memᴰ·head, List·Memᴰ·tail, List·Memᴰ·not-nil, List·Memᴰ·cases-cons, List·Memᴰ·append-cases, Memᴰ·append-left, Memᴰ·append-right}
-use mathlib.Core.Logic.{_⊎_, inl, inr, ⊎-elim}
+use mathlib.Core.Logic.{_⊎_, ⊎-elim}
 use native.Mathlib.Omega.{arith}
 use Rattle.hexfloat.proofs.Trichotomy.{below-or-not}
 use Rattle.orders.specs.declared.order.Order.{Order}
@@ -59,7 +59,27 @@ rises-listed (suc m) i f each cross =
 before-once : (xs ys : List ℕ) → Before xs ys → Before ys xs → ⊥
 before-once [] ys p q = p
 before-once (x ∷ xs) [] p q = p
-before-once (x ∷ xs) (y ∷ ys) p q = ⊎-elim (λ l. ⊎-elim (λ m. omega arith) (λ m. omega (arith, m .0)) q) (λ l. ⊎-elim (λ m. omega (arith, l .0)) (λ m. before-once xs ys (l .1) (m .1)) q) p
+before-once (x ∷ xs) (y ∷ ys) p q =
+    ⊎-elim
+    (λ l. ⊎-elim (λ m. omega arith) (λ m. omega (arith, m .0)) q)
+    (λ l. ⊎-elim (λ m. omega (arith, l .0)) (λ m. before-once xs ys (l .1) (m .1)) q)
+    p
+
+-- of two lists that rise, each with the other's first order
+same-first : (x y : Order) (xs ys : List Order) → Rises (x ∷ xs) → Rises (y ∷ ys) → In x (y ∷ ys) → In y (x ∷ xs) → x ≡ y
+same-first x y xs ys p q h k =
+    ⊎-elim
+    (λ e. e)
+    (λ later. ⊎-elim (λ e. sym e) (λ after. absurd (before-once (cellsOf x) (cellsOf y) (p .0 y after) (q .0 x later))) (List·Memᴰ·cases-cons k))
+    (List·Memᴰ·cases-cons h)
+
+-- what follows the first order of one list follows that of the other, if it is the same
+rest-in : (x : Order) (xs ys : List Order) → Rises (x ∷ xs) → ((o : Order) → In o (x ∷ xs) → In o (x ∷ ys)) → (o : Order) → In o xs → In o ys
+rest-in x xs ys p there o h =
+    ⊎-elim
+    (λ same. let b = subst (λ (z : Order). Before (cellsOf x) (cellsOf z)) same (p .0 o h) in absurd (before-once (cellsOf x) (cellsOf x) b b))
+    (λ k. k)
+    (List·Memᴰ·cases-cons (there o (List·Memᴰ·tail h)))
 
 -- two lists that rise and have the same orders are the same
 pub same-orders :
@@ -68,14 +88,7 @@ same-orders [] [] p q there back = refl
 same-orders [] (y ∷ ys) p q there back = absurd (List·Memᴰ·not-nil (back y (List·Memᴰ·head refl)))
 same-orders (x ∷ xs) [] p q there back = absurd (List·Memᴰ·not-nil (there x (List·Memᴰ·head refl)))
 same-orders (x ∷ xs) (y ∷ ys) p q there back =
-    let first : x ≡ y = ⊎-elim (λ e. e) (λ h. ⊎-elim (λ e. sym e) (λ k. absurd (before-once (cellsOf x) (cellsOf y) (p .0 y k) (q .0 x h))) (List·Memᴰ·cases-cons (back y (List·Memᴰ·head refl)))) (List·Memᴰ·cases-cons (there x (List·Memᴰ·head refl))) in
-    rw (first, same-orders xs ys (p .1) (q .1) (rest-in x y xs ys p first there) (rest-in y x ys xs q (sym first) back))
-  where
-    -- what follows the first of one follows the first of the other
-    rest-in :
-        (x y : Order) (xs ys : List Order) → Rises (x ∷ xs) → x ≡ y → ((o : Order) → In o (x ∷ xs) → In o (y ∷ ys)) → (o : Order) → In o xs → In o ys
-    rest-in x y xs ys p e there o h =
-        ⊎-elim
-        (λ same. let b = p .0 o h in let c = subst (λ (z : Order). Before (cellsOf x) (cellsOf z)) (subst (λ (z : Order). o ≡ z) (sym e) same) b in absurd (before-once (cellsOf x) (cellsOf x) c c))
-        (λ k. k)
-        (List·Memᴰ·cases-cons (there o (List·Memᴰ·tail h)))
+    let e = same-first x y xs ys p q (there x (List·Memᴰ·head refl)) (back y (List·Memᴰ·head refl)) in
+    let there′ = rest-in x xs ys p (subst (λ (z : Order). (o : Order) → In o (x ∷ xs) → In o (z ∷ ys)) (sym e) there) in
+    let back′ = rest-in y ys xs q (subst (λ (z : Order). (o : Order) → In o (y ∷ ys) → In o (z ∷ xs)) e back) in
+    rw (e, same-orders xs ys (p .1) (q .1) there′ back′)

@@ -1,11 +1,10 @@
 -- A number taken apart by division; the place of an order in its block.
 use Prim.Native.Nat.{ℕ, zero, suc, _+_, _*_, _-_, _/_, _%_, _<_, _≤_}
 use mathlib.Core.Path.{_≡_, _∙_}
-use native.Mathlib.Nat.{zero-mul, mul-zero, suc-mul, mul-add-div-right, div-eq-of-lt, mul-add-mod-self-right, mod-eq-of-lt, div-add-mod', mod-lt, mul-le-mul-right}
+use native.Mathlib.Nat.{zero-mul, mul-zero, suc-mul, mul-add-div-right, div-eq-of-lt, mul-add-mod-self-right, mod-eq-of-lt, div-add-mod', mul-le-mul-right}
 use mathlib.Core.Logic.{⊎-elim}
 use native.Mathlib.Omega.{arith}
 use Rattle.hexfloat.proofs.Trichotomy.{below-or-not}
-use Rattle.orders.specs.declared.order.Order.{Order}
 use Rattle.chart.specs.declared.block.Block.{Block}
 use Rattle.chart.specs.declared.block.Place.{Place}
 use Rattle.chart.specs.Chart.{order}

@@ -1,6 +1,6 @@
 -- The orders of a block that are shown: those after the skipped ones, as many as have room.
-use Prim.Native.Nat.{ℕ, zero, suc, _+_, _*_, _-_, _<_, _≤_, min}
-use mathlib.Core.Path.{_≡_, refl, sym, ap, _∙_}
+use Prim.Native.Nat.{ℕ, zero, suc, _+_, _-_, _<_, _≤_, min}
+use mathlib.Core.Path.{_≡_, sym, ap, _∙_}
 use mathlib.Core.List.{List, [], _∷_, _++_}
 use mathlib.Core.Logic.{⊎-elim}
 use lib.ListN.{length, take, drop, drop-of-length-le, length-take}
@@ -8,7 +8,6 @@ use lib.Seq.{take-nil, drop-nil, take-all}
 use native.Mathlib.Nat.{le-of-lt, mul-le-mul, min-eq-left, min-eq-right, zero-sub, suc-sub-suc, sub-zero, zero-add}
 use native.Mathlib.Omega.{arith}
 use Rattle.hexfloat.proofs.Trichotomy.{below-or-not}
-use Rattle.orders.specs.declared.order.Order.{Order}
 use Rattle.chart.specs.declared.block.Block.{Block}
 use Rattle.chart.specs.declared.listing.Progress.{Progress}
 use Rattle.chart.specs.Block.{sizeOf, Small, orderIn, ordersIn, allOrders}

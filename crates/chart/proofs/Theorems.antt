@@ -1,21 +1,22 @@
 -- The theorems about the chart.
-use Prim.Native.Nat.{ℕ, _+_, _*_, _<_, _≤_}
+use Prim.Native.Nat.{ℕ, _+_, _<_}
 use mathlib.Core.Path.{_≡_, refl, sym, ap, subst, _∙_}
-use mathlib.Core.List.{List, [], _∷_, _++_, List·Memᴰ·head, List·Memᴰ·not-nil, List·Memᴰ·eq-of-singleton}
+use mathlib.Core.List.{List, _++_, List·Memᴰ·head, List·Memᴰ·not-nil, List·Memᴰ·eq-of-singleton}
 use mathlib.Core.Logic.{_⊎_, inl, inr, ⊎-elim}
-use lib.ListN.{length, take, drop}
+use lib.ListN.{take, drop}
 use lib.Seq.{take-add, drop-drop}
 use native.Mathlib.Omega.{arith}
 use Rattle.hexfloat.specs.Answer.{gives}
 use Rattle.orders.specs.declared.order.Operation.{Operation}
 use Rattle.orders.specs.declared.order.Order.{Order}
 use Rattle.orders.specs.Order.{legalOf}
-use Rattle.chart.specs.Chart.{order, listedFrom, ifBelongs, chart}
-use Rattle.chart.specs.Piece.{cellsOf, piece}
-use Rattle.chart.specs.Theorems.{In, Belongs, Before, Rises, IsChart, Theorems}
-use Rattle.chart.proofs.Belonging.{row-known, legal-known, belongs-once, belongs-cases}
+use Rattle.orders.proofs.Passing.{legal-row, within-limited}
+use Rattle.chart.specs.Chart.{order, ifBelongs, chart}
+use Rattle.chart.specs.Piece.{piece}
+use Rattle.chart.specs.Theorems.{In, Belongs, Rises, IsChart, Theorems}
+use Rattle.chart.proofs.Belonging.{row-known, belongs-once, belongs-cases}
 use Rattle.chart.proofs.Blocks.{onAt, onR2, onR1}
-use Rattle.chart.proofs.Members.{ListedFor, listed-for, listed-in, rises-listed, same-orders}
+use Rattle.chart.proofs.Members.{listed-for, listed-in, rises-listed, same-orders}
 use Rattle.chart.proofs.Totals.{chart-total}
 
 -- what is listed for a cell is the order with it, and belongs
@@ -88,8 +89,9 @@ module _ (n : ℕ) where
   chart-every : (o : Order) → Belongs n o → In o (chart n)
   unfolding chart
   chart-every o h =
-      let k = legal-known o (h .operation) (h .legal) in
-      let row = row-known (o .code) (h .operation) (k .row) in
+      let q = legal-row o (h .operation) (h .legal) in
+      let row = row-known (o .code) (h .operation) (q .0) in
+      let k = within-limited (h .operation) o (q .1) in
       let small : o .at < 65536 = ⊎-elim (λ e. omega (arith, k .at)) (λ e. omega (arith, k .at)) (row .at) in
       let once : In o (ifBelongs n o) = rw (belongs-once n o h) (List·Memᴰ·head refl) in
       listed-in o 65536 0 (o .code) (λ c. onR1 n c) (omega arith) (omega (arith, row .code))

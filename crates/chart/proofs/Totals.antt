@@ -1,10 +1,8 @@
 -- How many orders the chart has.
 use Prim.Native.Nat.{ℕ, zero, suc, _+_, _*_, _≤_}
 use mathlib.Core.Path.{_≡_, refl, ap, _∙_}
-use mathlib.Core.List.{List}
 use lib.ListN.{length, length-append}
 use native.Mathlib.Omega.{arith}
-use Rattle.orders.specs.declared.order.Order.{Order}
 use Rattle.orders.specs.Order.{rowAmong, operationOf}
 use Rattle.chart.specs.Block.{blockOf, sizeOf, allOrders}
 use Rattle.chart.specs.Chart.{listedFrom, chart}

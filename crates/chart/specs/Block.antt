@@ -56,6 +56,16 @@ pub record Inside (b : Block) (p : Place) : Type 0 where
   pub r2 : p .r2 < b .r2s
   pub at : p .at < b .ats
 
+-- a place whose numbers cells can hold
+pub record SmallPlace (p : Place) : Type 0 where
+  pub r1 : p .r1 < 8
+  pub r2 : p .r2 < 8
+  pub at : p .at < 65536
+
+-- the order at a place
+abbrev pub orderWith : Block → Place → Order
+orderWith b p = order (b .code) (p .r1) (p .r2) (p .at)
+
 -- m orders that differ in `at` alone, which rises by one
 abbrev pub series : Order → ℕ → List Order
 series o m = listedFrom (o .at) m (λ t. order (o .code) (o .r1) (o .r2) t ∷ [])

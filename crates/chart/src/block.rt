@@ -5,7 +5,7 @@ use orders::Order;
 ghost use mathlib.Core.Path.{_≡_};
 ghost use Prim.Native.Nat.{_+_, _-_, _<_, min};
 ghost use lib.ListN.{length};
-ghost use Rattle.chart.specs.Block.{atsOf, blockOf, sizeOf, Small, ordersIn, placeIn, Inside};
+ghost use Rattle.chart.specs.Block.{atsOf, blockOf, sizeOf, Small, ordersIn, placeIn, Inside, SmallPlace, orderWith};
 ghost use Rattle.chart.specs.Writing.{writing, put, BlockFits};
 
 // A code, and how many r1, r2 and `at` its orders have.
@@ -93,6 +93,18 @@ fn next_pair(b: Block, p: Place) -> Place
     }
 }
 
+fn order_with(b: Block, p: Place) -> Order
+    requires { ⌜ SmallPlace p ⌝ }
+    ensures { λ r. ⌜ r ≡ orderWith b p ⌝ }
+{
+    Order {
+        code: b.code,
+        r1: p.r1 as u16,
+        r2: p.r2 as u16,
+        at: p.at as u16,
+    }
+}
+
 // As many orders as there are, or as there is room for.
 pub fn fitting(orders: u32, room: usize) -> u32
     ensures { λ r. ⌜ r ≡ min orders room ⌝ }
@@ -114,13 +126,7 @@ pub fn fill_block(cells: &mut [u16], count: usize, b: Block, i: u32, m: u32) -> 
     let mut done = count;
     while 0 < left {
         let k = fitting(left, (b.ats - p.at) as usize);
-        let first = Order {
-            code: b.code,
-            r1: p.r1 as u16,
-            r2: p.r2 as u16,
-            at: p.at as u16,
-        };
-        done = fill_series(cells, done, first, k);
+        done = fill_series(cells, done, order_with(b, p), k);
         left -= k;
         p = next_pair(b, p);
     }

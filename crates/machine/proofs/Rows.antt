@@ -11,7 +11,7 @@ use Rattle.orders.specs.declared.order.Order.{Order}
 use Rattle.orders.specs.declared.order.Verb.{Verb}
 use Rattle.orders.specs.Order.{rows, withinLimits, legalOf, spanOf, storedOf}
 use Rattle.hexfloat.proofs.Answers.{both}
-use Rattle.orders.proofs.Passing.{legal-row}
+use Rattle.orders.proofs.Passing.{legal-row, within-limited}
 use Rattle.orders.proofs.Table.{allRows, row-passes}
 
 -- UM and SET alone write r2 into the status: the mask, the selector
@@ -52,19 +52,16 @@ pub record Passed (op : Operation) (o : Order) : Type 0 where
   pub bit : bitFits (op .verb) (op .r2) ≡ true
 
 passed : (op : Operation) (o : Order) → fitting (o .code) op ≡ true → withinLimits op o ≡ true → Passed op o
-unfolding withinLimits fitting
+unfolding fitting
 passed op o f w =
     let a = both (leb (op .r1) 7) (leb (op .r2) 7 && (leb (storedOf op) (spanOf op) && (leb (spanOf op) 4 && bitFits (op .verb) (op .r2)))) f in
     let b = both (leb (op .r2) 7) (leb (storedOf op) (spanOf op) && (leb (spanOf op) 4 && bitFits (op .verb) (op .r2))) (a .1) in
     let c = both (leb (storedOf op) (spanOf op)) (leb (spanOf op) 4 && bitFits (op .verb) (op .r2)) (b .1) in
     let d = both (leb (spanOf op) 4) (bitFits (op .verb) (op .r2)) (c .1) in
-    let x = both (leb (o .r1) (op .r1)) (leb (o .r2) (op .r2) && leb (o .at) (op .at)) w in
-    let y = both (leb (o .r2) (op .r2)) (leb (o .at) (op .at)) (x .1) in
-    let r1 : o .r1 ≤ op .r1 = leb-true (o .r1) (op .r1) (x .0) in
-    let r2 : o .r2 ≤ op .r2 = leb-true (o .r2) (op .r2) (y .0) in
+    let cells = within-limited op o w in
     record {
-      r1 = r1;
-      r2 = r2;
+      r1 = cells .r1;
+      r2 = cells .r2;
       first = omega (arith, leb-true (op .r1) 7 (a .0));
       second = omega (arith, leb-true (op .r2) 7 (b .0));
       stored = leb-true (storedOf op) (spanOf op) (c .0);

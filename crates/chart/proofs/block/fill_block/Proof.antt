@@ -1,18 +1,19 @@
 -- `chart::block::fill_block` meets its contract: what is left of the orders, written from here, is all of them from the start. Assumes nothing.
 use Prim.Native.Nat.{ℕ, _-_}
-use mathlib.Core.Path.{refl, sym, ap, subst}
+use mathlib.Core.Path.{refl, ap}
 use native.Mathlib.Nat.{min-le-left, min-le-right}
 use native.Mathlib.Omega.{arith}
 use borrow.Author.Needs.{needs}
 use lib.ListN.{length}
 use Rattle.chart.specs.Block.{ordersIn}
-use Rattle.chart.specs.Writing.{Writing, writing, put}
+use Rattle.chart.specs.Writing.{writing, put}
 use Rattle.chart.proofs.Left.{BlockLeft, place-small, block-on, block-end}
 use Rattle.chart.proofs.block.fill_block.Statement.{statement}
 use Rattle.chart.proofs.block.fill_block.Tie as tie
 
 abbrev Inv-loop : tie.InvT-loop
-Inv-loop cells₀ count b i m p₀ left₀ done₀ cells p left done = BlockLeft (put (ordersIn b i m) (writing cells₀ count)) (length cells₀) b p left (writing cells done)
+Inv-loop cells₀ count b i m p₀ left₀ done₀ cells p left done =
+    BlockLeft (put (ordersIn b i m) (writing cells₀ count)) (length cells₀) b p left (writing cells done)
 
 abbrev μ-loop : tie.MeasureT-loop
 μ-loop cells₀ count b i m p₀ left₀ done₀ cells p left done = left
@@ -34,7 +35,7 @@ loop-holds c =
     }
 
 sub-fitting : tie.Need-sub-fitting Inv-loop μ-loop
-sub-fitting c = let r = c .before .before .before .loop .inv in omega (arith, r .inside .at)
+sub-fitting c = omega (arith, c .before .before .before .loop .inv .inside .at)
 
 cast-fitting : tie.Need-cast-fitting Inv-loop μ-loop
 cast-fitting c = search needs
@@ -42,54 +43,46 @@ cast-fitting c = search needs
 fitting-requires : tie.Need-fitting-requires Inv-loop μ-loop
 fitting-requires c κs = search needs
 
-cast-t14 : tie.Need-cast-t14 Inv-loop μ-loop
-cast-t14 c =
-    let small = place-small _ _ _ _ _ _ (c .before .before .before .before .before .loop .inv) (c .before .before .before .before .loop-test .taken) (c .before .before .before .before .before .before .before .before .pre .small) in
-    record { fits = omega arith }
-
-cast-t15 : tie.Need-cast-t15 Inv-loop μ-loop
-cast-t15 c =
-    let small = place-small _ _ _ _ _ _ (c .before .before .before .before .before .before .loop .inv) (c .before .before .before .before .before .loop-test .taken) (c .before .before .before .before .before .before .before .before .before .pre .small) in
-    record { fits = omega arith }
-
-cast-t16 : tie.Need-cast-t16 Inv-loop μ-loop
-cast-t16 c =
-    let small = place-small _ _ _ _ _ _ (c .before .before .before .before .before .before .before .loop .inv) (c .before .before .before .before .before .before .loop-test .taken) (c .before .before .before .before .before .before .before .before .before .before .pre .small) in
-    record { fits = omega arith }
+order-with-requires : tie.Need-order-with-requires Inv-loop μ-loop
+order-with-requires c κs =
+    let turn = c .before .before .before .before in
+    place-small _ _ _ _ _ _ (turn .before .loop .inv) (turn .loop-test .taken) (turn .before .before .before .before .pre .small)
 
 fill-series-requires : tie.Need-fill-series-requires Inv-loop μ-loop
 fill-series-requires c κs =
-    let a = c .before .before .before .before .before .before .before .before in
-    let r = a .loop .inv in
-    let b = a .before .before .before .args .b in
-    let k = c .before .before .before .before .fitting .ensures in
-    record {
-      room = omega (arith, r .room, r .same, k, min-le-left (a .loop .left) (b .ats - a .loop .p .at));
-      cells = omega (arith, r .inside .at, k, min-le-right (a .loop .left) (b .ats - a .loop .p .at), a .before .before .before .pre .small .ats);
+    let turn = c .before .before .before .before .before in
+    let at = turn .before .loop in
+    let s = turn .before .before .before .before in
+    let k = c .before .before .fitting .ensures in
+    rw (c .order-with .ensures) record {
+      room = omega (arith, at .inv .room, at .inv .same, k, min-le-left (at .left) (s .args .b .ats - at .p .at));
+      cells = omega (arith, at .inv .inside .at, k, min-le-right (at .left) (s .args .b .ats - at .p .at), s .pre .small .ats);
     }
 
 sub-left : tie.Need-sub-left Inv-loop μ-loop
 sub-left c =
-    let a = c .before .before .before .before .before .before .before .before .before .before .before .loop in
-    omega (arith, c .before .before .before .before .before .before .before .fitting .ensures, min-le-left (a .left) (c .before .before .before .before .before .before .before .before .before .before .before .before .before .before .args .b .ats - a .p .at))
+    let turn = c .before .before .before .before .before .before .before .before in
+    let at = turn .before .loop in
+    omega (arith, c .before .before .before .before .before .fitting .ensures, min-le-left (at .left) (turn .before .before .before .before .args .b .ats - at .p .at))
 
 next-pair-requires : tie.Need-next-pair-requires Inv-loop μ-loop
 next-pair-requires c κs =
-    let a = c .before .before .before .before .before .before .before .before .before .before .before in
-    (a .loop .inv .inside, place-small _ _ _ _ _ _ (a .loop .inv) (c .before .before .before .before .before .before .before .before .before .before .loop-test .taken) (a .before .before .before .pre .small) .r1)
+    let turn = c .before .before .before .before .before .before .before .before in
+    let inv = turn .before .loop .inv in
+    (inv .inside, place-small _ _ _ _ _ _ inv (turn .loop-test .taken) (turn .before .before .before .before .pre .small) .r1)
 
 loop-less : tie.Need-loop-less Inv-loop μ-loop
 loop-less c =
-    let a = c .before .before .before .before .before .before .before .before .before .before .before .before .loop in
-    omega (arith, c .before .before .before .before .before .before .before .before .fitting .ensures, c .before .before .before .before .before .before .before .before .before .before .before .loop-test .taken, a .inv .inside .at)
+    let turn = c .before .before .before .before .before .before .before .before .before in
+    omega (arith, c .before .before .before .before .before .before .fitting .ensures, turn .loop-test .taken, turn .before .loop .inv .inside .at)
 
 loop-again : tie.Need-loop-again Inv-loop μ-loop
 loop-again c =
-    let a = c .before .before .before .before .before .before .before .before .before .before .before .before in
-    let r = a .loop .inv in
-    let q = c .next-pair .ensures in
-    let on = block-on _ _ _ _ _ _ r (c .before .before .before .before .before .before .before .before .before .before .before .loop-test .taken) (c .next-pair .result) (c .before .before .before .before .before .before .before .before .fitting .result) (c .before .before .before .before .before .before .before .before .fitting .ensures) (q .0) (q .1) in
-    rw (c .before .before .before .fill-series .ensures) on
+    let turn = c .before .before .before .before .before .before .before .before .before in
+    let k = c .before .before .before .before .before .before .fitting in
+    let q = c .next-pair in
+    let on = block-on _ _ _ _ _ _ (turn .before .loop .inv) (turn .loop-test .taken) (q .result) (k .result) (k .ensures) (q .ensures .0) (q .ensures .1) in
+    rw (c .before .before .before .fill-series .ensures, c .before .before .before .before .order-with .ensures) on
 
 same-length : tie.Need-same-length Inv-loop μ-loop
 same-length c = c .before .loop .inv .same
@@ -108,9 +101,7 @@ fill-block-spec =
     sub-fitting
     cast-fitting
     fitting-requires
-    cast-t14
-    cast-t15
-    cast-t16
+    order-with-requires
     fill-series-requires
     sub-left
     next-pair-requires

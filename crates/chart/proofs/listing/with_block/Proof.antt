@@ -1,8 +1,7 @@
 -- `chart::listing::with_block` meets its contract: the block is skipped, has no room, or has a first order to write. Assumes nothing.
-use Prim.Native.Nat.{ℕ, _+_, _-_, _≤_, min}
-use mathlib.Core.Path.{_≡_, refl, sym, ap, _∙_}
+use Prim.Native.Nat.{_-_}
 use native.Mathlib.Omega.{arith}
-use Rattle.chart.specs.Writing.{writing, put}
+use Rattle.chart.specs.Writing.{put}
 use Rattle.chart.proofs.Shown.{size-below, shown-skipped, shown-full, shown-some}
 use borrow.Author.Needs.{needs}
 use Rattle.chart.proofs.listing.with_block.Statement.{statement}

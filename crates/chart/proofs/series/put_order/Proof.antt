@@ -50,7 +50,12 @@ same-length : tie.Need-same-length
 same-length c = search needs
 
 returns : tie.Need-returns
-returns c = let p = c .args .count * 4 in let a : p + 1 ≡ suc p = omega arith in let b : p + 2 ≡ suc (suc p) = omega arith in let d : p + 3 ≡ suc (suc (suc p)) = omega arith in rw (a, b, d)
+returns c =
+    let p = c .args .count * 4 in
+    let a : p + 1 ≡ suc p = omega arith in
+    let b : p + 2 ≡ suc (suc p) = omega arith in
+    let d : p + 3 ≡ suc (suc (suc p)) = omega arith in
+    rw (a, b, d)
 
 pub put-order-spec : {M : Type 1} → statement M
 put-order-spec =
