@@ -1,9 +1,10 @@
 /* The AP-101S floating desk for the bench panel: link with libpanel.a (`rt staticlib panel`).
  *
  * Every function takes any content and any lengths that its types allow, and answers 0 or one of the numbers of
- * docs/HANDBOOK.md, 'When it stops'. A refused step, back step or text leaves the state and every buffer as they were;
- * a run that is stopped keeps the steps that it took before. What a call answers comes back by value. A pointer with
- * length 0 may be anything that is aligned; no two lent buffers overlap. Nothing is kept between calls.
+ * docs/HANDBOOK.md, 'When it stops'. A refused step, back step, text or piece of the chart leaves the state and every
+ * buffer as they were; a run that is stopped keeps the steps that it took before. What a call answers comes back by
+ * value. A pointer with length 0 may be anything that is aligned; no two lent buffers overlap. Nothing is kept between
+ * calls.
  */
 #ifndef PANEL_H
 #define PANEL_H

@@ -9,8 +9,7 @@ use trial::Layout;
 use trial::Number;
 
 fn complain() -> bool {
-    io::write_all(libc::STDERR_FILENO, b"calls: a case is not of the form\n");
-    false
+    trial::complain(b"calls")
 }
 
 // The calls on the deck of `count` orders, from a fresh state; then the first 64 halfwords of memory.
@@ -73,15 +72,8 @@ fn read_and_run(n: usize, text: &mut [u8], k: usize, calls: &mut [u8]) -> bool {
 // One case, and whether to go on.
 fn one_case() -> bool {
     let mut head = [0u8; 11];
-    let input = trial::read_line(&mut head);
-    match input {
-        Input::End => {
-            return false;
-        }
-        Input::Malformed => {
-            return complain();
-        }
-        Input::Whole => {}
+    if !trial::case_begins(b"calls", &mut head) {
+        return false;
     }
     let Number::Value(n) = trial::number_at(10, &head, 0, 5) else {
         return complain();

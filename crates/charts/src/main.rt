@@ -4,13 +4,11 @@
 // which is 65535 before. For each case a line is written with 19, or 0, the total and the orders written, and a
 // line with all cells of the buffer.
 use chart::Charted;
-use trial::Input;
 use trial::Line;
 use trial::Number;
 
 fn complain() -> bool {
-    io::write_all(libc::STDERR_FILENO, b"charts: a case is not of the form\n");
-    false
+    trial::complain(b"charts")
 }
 
 fn answer_of(charted: Charted) -> Line {
@@ -76,15 +74,8 @@ fn numbered_case(head: &[u8]) -> bool {
 // One case, and whether to go on.
 fn one_case() -> bool {
     let mut head = [0u8; 19];
-    let input = trial::read_line(&mut head);
-    match input {
-        Input::End => {
-            return false;
-        }
-        Input::Malformed => {
-            return complain();
-        }
-        Input::Whole => {}
+    if !trial::case_begins(b"charts", &mut head) {
+        return false;
     }
     numbered_case(&head)
 }

@@ -22,8 +22,7 @@ ghost use Prim.Native.Nat.{_≤_};
 ghost use lib.ListN.{length};
 
 fn complain() -> bool {
-    io::write_all(libc::STDERR_FILENO, b"odd: a case is not of the form\n");
-    false
+    trial::complain(b"odd")
 }
 
 fn written_words(journal: &[u32]) -> bool {
@@ -267,15 +266,8 @@ fn wide(n: u32) -> usize {
 // One case, and whether to go on.
 fn one_case() -> bool {
     let mut head = [0u8; 26];
-    let input = trial::read_line(&mut head);
-    match input {
-        Input::Whole => {}
-        Input::End => {
-            return false;
-        }
-        Input::Malformed => {
-            return complain();
-        }
+    if !trial::case_begins(b"odd", &mut head) {
+        return false;
     }
     let lengths = values_of(10, &head, 4, 5, 6);
     let Number::Value(k) = trial::number_at(10, &head, 24, 2) else {

@@ -40,6 +40,23 @@ pub fn read_line(space: &mut [u8]) -> Input {
     }
 }
 
+// Tells on standard error that a case of a program's input is not of the form; false, as no case follows.
+pub fn complain(program: &[u8]) -> bool {
+    io::write_all(libc::STDERR_FILENO, program);
+    io::write_all(libc::STDERR_FILENO, b": a case is not of the form\n");
+    false
+}
+
+// Whether a case begins, with its first line in the space: none does at the end of the input.
+pub fn case_begins(program: &[u8], space: &mut [u8]) -> bool {
+    let input = read_line(space);
+    match input {
+        Input::Whole => true,
+        Input::End => false,
+        Input::Malformed => complain(program),
+    }
+}
+
 // A number that was read.
 pub enum Number {
     Value(u32),

@@ -1,5 +1,5 @@
-// What the gate's programs over the machine share: input by lines and numbers, a call by its byte, and
-// lines of output.
+// What most of the gate's programs share: input by lines and numbers, a call by its byte, and lines of
+// output.
 //
 // What a program writes is held to outside vectors, so the contracts here speak of the calls alone; of
 // the text it is proved that it is made safely.
@@ -13,6 +13,8 @@ pub use calling::call;
 pub use calling::list;
 pub use input::Input;
 pub use input::Number;
+pub use input::case_begins;
+pub use input::complain;
 pub use input::number_at;
 pub use input::read_bytes;
 pub use input::read_line;

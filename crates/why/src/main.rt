@@ -12,8 +12,7 @@ use trial::Line;
 use trial::Number;
 
 fn complain() -> bool {
-    io::write_all(libc::STDERR_FILENO, b"why: a case is not of the form\n");
-    false
+    trial::complain(b"why")
 }
 
 fn with_cell(t: Line, cell: Cell) -> Line {
@@ -138,15 +137,8 @@ fn numbered_case(head: &[u8]) -> bool {
 // One case, and whether to go on.
 fn one_case() -> bool {
     let mut head = [0u8; 23];
-    let input = trial::read_line(&mut head);
-    match input {
-        Input::End => {
-            return false;
-        }
-        Input::Malformed => {
-            return complain();
-        }
-        Input::Whole => {}
+    if !trial::case_begins(b"why", &mut head) {
+        return false;
     }
     numbered_case(&head)
 }
