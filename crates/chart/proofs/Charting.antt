@@ -1,5 +1,5 @@
 -- The chart, block after block: what is left of it, written from here, is the piece that is asked for.
-use Prim.Native.Nat.{ℕ, suc, _+_, _*_, _-_, _/_, _%_, _<_, _≤_}
+use Prim.Native.Nat.{ℕ, suc, _+_, _*_, _-_, _/_, _%_, _<_, _≤_, min}
 use mathlib.Core.Path.{_≡_, refl, sym, ap, _∙_}
 use mathlib.Core.List.{List, [], _++_}
 use lib.ListN.{length, take, drop, length-append, length-take, length-drop}
@@ -98,10 +98,10 @@ chart-end goal n l room cells s r =
     let none : take (room - s .written) (drop (s .skip) []) ≡ [] = ap (take (room - s .written)) (drop-nil (s .skip)) ∙ take-nil (room - s .written) in
     ap (λ (os : List Order). put os (writing cells (s .written))) (sym none) ∙ r .puts
 
--- no more orders than there is room for
-piece-length : (n k m : ℕ) → length (piece n k m) ≤ m
+-- as many orders as there is room for, or as are left
+pub piece-length : (n k m : ℕ) → length (piece n k m) ≡ min m (length (chart n) - k)
 unfolding piece
-piece-length n k m = omega (arith, length-take m (drop k (chart n)))
+piece-length n k m = length-take m (drop k (chart n)) ∙ ap (min m) (length-drop k (chart n))
 
 -- the whole answer
 pub chart-answer :

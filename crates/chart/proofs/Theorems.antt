@@ -16,6 +16,7 @@ use Rattle.chart.specs.Piece.{piece}
 use Rattle.chart.specs.Theorems.{In, Belongs, Rises, IsChart, Theorems}
 use Rattle.chart.proofs.Belonging.{row-known, belongs-once, belongs-cases}
 use Rattle.chart.proofs.Blocks.{onAt, onR2, onR1}
+use Rattle.chart.proofs.Charting.{piece-length}
 use Rattle.chart.proofs.Members.{listed-for, listed-in, rises-listed, same-orders}
 use Rattle.chart.proofs.Totals.{chart-total}
 
@@ -114,4 +115,4 @@ module _ (n : ℕ) where
   next-piece k a b = take-add a b (drop k (chart n)) ∙ ap (λ (os : List Order). take a (drop k (chart n)) ++ take b os) (drop-drop a k (chart n))
 
 pub theorems : Theorems
-theorems = record { is-chart = is-chart; one-chart = one-chart; without-at = without-at; total = chart-total; next-piece = next-piece }
+theorems = record { is-chart = is-chart; one-chart = one-chart; without-at = without-at; total = chart-total; piece-length = piece-length; next-piece = next-piece }

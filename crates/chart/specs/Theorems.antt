@@ -1,5 +1,5 @@
 -- What is proved of the chart, in the words of document 02, Job 10. The proofs are in proofs/Theorems.antt.
-use Prim.Native.Nat.{ℕ, _+_, _*_, _<_, _≤_}
+use Prim.Native.Nat.{ℕ, _+_, _*_, _-_, _<_, _≤_, min}
 use mathlib.Core.Path.{_≡_}
 use mathlib.Core.List.{List, [], _∷_, _++_, List·Memᴰ}
 use mathlib.Core.Logic.{_⊎_}
@@ -46,5 +46,7 @@ pub record Theorems : Type 0 where
   -- an order without `at` is there at every n, 0 included
   pub without-at : (n : ℕ) (o : Order) (op : Operation) → legalOf o ≡ gives op → op .at ≡ 0 → In o (chart n)
   pub total : (n : ℕ) → n ≤ 65536 → length (chart n) ≡ 901 + 1040 * n
+  -- a piece has as many orders as there is room for, or as are left from its rank on: none from the total on
+  pub piece-length : (n k m : ℕ) → length (piece n k m) ≡ min m (length (chart n) - k)
   -- a piece, and the piece that begins where it ends, are one piece
   pub next-piece : (n k a b : ℕ) → piece n k (a + b) ≡ piece n k a ++ piece n (k + a) b
