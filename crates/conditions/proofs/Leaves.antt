@@ -54,7 +54,7 @@ module _ (d : List ℕ) (p : ProtectList) where
   taken-step x e t = rw t
 
   -- no stop has the number 0
-  stop-number : (x : Machine) (k : ℕ) → verdictOf d p x ≡ stops k → k ≡ 0 → ⊥
+  pub stop-number : (x : Machine) (k : ℕ) → verdictOf d p x ≡ stops k → k ≡ 0 → ⊥
   stop-number x k t z =
       let s : StepNumber k = subst (StopsBy StepNumber) t (decided-by d p (x .state .registers) (x .state .used) (x .memory) (length (x .journal))) in
       omega (arith, s .some)

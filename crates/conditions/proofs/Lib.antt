@@ -18,4 +18,6 @@ pub mod Sets
 pub mod Theorems
 pub mod Trail
 pub mod Unindexed
+pub mod Unread
 pub mod Writes
+pub mod Written

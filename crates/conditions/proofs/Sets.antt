@@ -1,5 +1,5 @@
 -- A step leaves the set of general registers that is not selected, and only SET changes the selector.
-use Prim.Native.Nat.{ℕ}
+use Prim.Native.Nat.{ℕ, _≤_}
 use mathlib.Core.Path.{_≡_, refl, sym, ap}
 use mathlib.Core.List.{List}
 use mathlib.Core.Bool.{Bool, true, false, cond, not, _&&_, _||_}
@@ -116,21 +116,29 @@ decided-selector d p g used m journal e h other =
     cases true true k r = absurd (other (eqb-true code 35 k))
     cases true false k r = absurd (let y : _≡_ {A = ℕ} 0 1 = cc in omega arith)
 
--- a change in set s, seen from another
-other-set :
-    (ch : Change) (n : List ℕ) (s t r : ℕ) → registered ch ≡ true → (t ≡ s → ⊥) → generalAt (generalAfter ch n s) t r ≡ generalAt n t r
-unfolding generalAfter generalAt registered
-other-set Change.Nothing n s t r h k = refl
-other-set (Change.Float q w) n s t r h k = refl
-other-set (Change.Pair q x y) n s t r h k = refl
-other-set (Change.General q w) n s t r h k = cases (leb t 1) (leb r 7) refl
+-- a change of register q of set s, seen from another register or set
+pub other-general :
+    (n : List ℕ) (s q w t r : ℕ) → q ≤ 7 → (t ≡ s → r ≡ q → ⊥) → generalAt (set n (generalCell s q) w) t r ≡ generalAt n t r
+unfolding generalAt
+other-general n s q w t r few k = cases (leb t 1) (leb r 7) refl
   where
     cases :
         (a b : Bool) → leb r 7 ≡ b →
         cond (a && b) (getD (set n (generalCell s q) w) (generalCell t r) 0) 0 ≡ cond (a && b) (getD n (generalCell t r) 0) 0
-    cases true true e = getD-set-other n (generalCell s q) (generalCell t r) w 0 (λ z. k (omega (arith, leb-true r 7 e, leb-true q 7 h)))
+    cases true true e =
+        let low = leb-true r 7 e in
+        getD-set-other n (generalCell s q) (generalCell t r) w 0 (λ z. k (omega arith) (omega arith))
     cases true false e = refl
     cases false b e = refl
+
+-- a change in set s, seen from another
+other-set :
+    (ch : Change) (n : List ℕ) (s t r : ℕ) → registered ch ≡ true → (t ≡ s → ⊥) → generalAt (generalAfter ch n s) t r ≡ generalAt n t r
+unfolding generalAfter registered
+other-set Change.Nothing n s t r h k = refl
+other-set (Change.Float q w) n s t r h k = refl
+other-set (Change.Pair q x y) n s t r h k = refl
+other-set (Change.General q w) n s t r h k = other-general n s q w t r (leb-true q 7 h) (λ z u. k z)
 other-set (Change.Two a w) n s t r h k = refl
 other-set (Change.Four a x y) n s t r h k = refl
 

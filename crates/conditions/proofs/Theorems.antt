@@ -12,7 +12,9 @@ use Rattle.conditions.proofs.RoundTrip.{round-trip}
 use Rattle.conditions.proofs.Sets.{one-set}
 use Rattle.conditions.proofs.Trail.{as-trail, included}
 use Rattle.conditions.proofs.Unindexed.{unindexed}
+use Rattle.conditions.proofs.Unread.{unread-free}
 use Rattle.conditions.proofs.Writes.{one-record}
+use Rattle.conditions.proofs.Written.{unwritten-kept}
 
 pub theorems : Theorems
 theorems = record {
@@ -32,4 +34,6 @@ theorems = record {
   unindexed = λ d p x none. unindexed d p none x;
   one-set = one-set;
   round-trip = round-trip;
+  unwritten-kept = unwritten-kept;
+  unread-free = unread-free;
 }

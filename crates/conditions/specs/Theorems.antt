@@ -2,7 +2,7 @@
 -- machine x and list of calls. The proofs are in proofs/Theorems.antt.
 use Prim.Native.Nat.{ℕ, _+_, _-_, _*_, _/_, _<_, _≤_}
 use mathlib.Core.Path.{_≡_}
-use mathlib.Core.List.{List, [], _∷_, _++_}
+use mathlib.Core.List.{List, [], _∷_, _++_, List·Memᴰ}
 use mathlib.Core.Bool.{true}
 use lib.ListN.{length, getD, replicate}
 use Rattle.hexfloat.specs.Answer.{gives}
@@ -26,6 +26,7 @@ use Rattle.machine.specs.Machine.{Machine, machine, beforeOf, committed}
 use Rattle.machine.specs.Run.{entryOf, ran}
 use Rattle.machine.specs.Step.{Outcome, outcome, nextOrder, nextAddress, verdictOf, stepped}
 use Rattle.machine.specs.Unindexed.{NoIndexIn}
+use Rattle.machine.specs.Uses.{Register, contents, readBy, writtenBy}
 use Rattle.conditions.specs.Trail.{Call, step, back, Entry, entry, Trail, trail, Reply, traced, called, standing, replies, stepsSaid, backsSaid, countSaid, Behind, AllCovered}
 use Rattle.conditions.specs.Unindexed.{unindexedCalled}
 
@@ -200,6 +201,38 @@ pub record RoundTripBy (d : List ℕ) (p : ProtectList) (x y z : Machine) (r2 g 
 abbrev pub RoundTrip : List ℕ → ProtectList → Machine → ℕ → ℕ → Type 0
 RoundTrip d p x r2 g = RoundTripBy d p x (times d p 1 step x) (times d p 2 step x) r2 g
 
+-- The registers that the next order reads, and those that it writes (document 02, Job 11; machine, Uses); an order that is not legal has none.
+pub record NextReads (d : List ℕ) (x : Machine) (r : Register) : Type 0 where
+  pub operation : Operation
+  pub legal : legalOf (nextOrder d x) ≡ gives operation
+  pub reads : List·Memᴰ r (readBy operation (nextOrder d x) (x .state .registers .status .selector))
+
+pub record NextWrites (d : List ℕ) (x : Machine) (r : Register) : Type 0 where
+  pub operation : Operation
+  pub legal : legalOf (nextOrder d x) ≡ gives operation
+  pub writes : List·Memᴰ r (writtenBy operation (nextOrder d x) (x .state .registers .status .selector))
+
+-- Two machines that differ in nothing but registers that the next order does not read and words of the journal.
+pub record AlikeRead (d : List ℕ) (x y : Machine) : Type 0 where
+  pub typed : TypedRegisters (x .state .registers)
+  pub typed-too : TypedRegisters (y .state .registers)
+  pub status : x .state .registers .status ≡ y .state .registers .status
+  pub used : x .state .used ≡ y .state .used
+  pub memory : x .memory ≡ y .memory
+  pub room : length (x .journal) ≡ length (y .journal)
+  pub read : (r : Register) → NextReads d x r → contents (x .state .registers) r ≡ contents (y .state .registers) r
+
+-- A step of both comes out alike: taken or stopped by the same number, the same status, used count and memory after it, and, where it was taken, the same
+-- contents of every register that the order writes. (What the record saves of a register from before the step is that register's.)
+pub record AlikeAfter (d : List ℕ) (x : Machine) (a b : Outcome Machine) : Type 0 where
+  pub taken : a .taken ≡ b .taken
+  pub stop : a .stop ≡ b .stop
+  pub status : a .after .state .registers .status ≡ b .after .state .registers .status
+  pub used : a .after .state .used ≡ b .after .state .used
+  pub memory : a .after .memory ≡ b .after .memory
+  pub written :
+      a .stop ≡ 0 → (r : Register) → NextWrites d x r → contents (a .after .state .registers) r ≡ contents (b .after .state .registers) r
+
 pub record Theorems : Type 0 where
   pub as-trail : (d : List ℕ) (p : ProtectList) (x : Machine) (cs : List Call) → Typed (x .memory) → Included d p x cs → AsTrail d p x cs
   -- the start alone decides: unless a back step there is the call that is left out, every list is included
@@ -230,3 +263,9 @@ pub record Theorems : Type 0 where
   pub round-trip :
       (d : List ℕ) (p : ProtectList) (x : Machine) (r1 r2 g : ℕ) → TypedRegisters (x .state .registers) → nextOrder d x ≡ cvfl r1 r2 →
       orderAt d (x .state .registers .status .pointer + 1) ≡ cvfx g r1 → RoundTrip d p x r2 g
+  -- The table of what orders read and write (document 02, Job 11): a step changes no register that its order is not said to write,
+  pub unwritten-kept :
+      (d : List ℕ) (p : ProtectList) (x : Machine) (r : Register) → (NextWrites d x r → ⊥) →
+      contents (stepped d p x .after .state .registers) r ≡ contents (x .state .registers) r
+  -- and its outcome depends on no register that its order is not said to read
+  pub unread-free : (d : List ℕ) (p : ProtectList) (x y : Machine) → AlikeRead d x y → AlikeAfter d x (stepped d p x) (stepped d p y)

@@ -8,6 +8,7 @@ pub mod Change
 pub mod Jump
 pub mod Effect
 pub mod Fetch
+pub mod Uses
 pub mod Journal
 pub mod Decide
 pub mod Machine

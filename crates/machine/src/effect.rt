@@ -141,7 +141,7 @@ fn multiply(width: Width, s: Status, r: u32, a: Words, b: Words) -> Verdict
 }
 
 // How wide a product is that goes to r: a short one fills a pair from an even register on.
-fn product_width(width: Width, r: u32) -> Width
+pub fn product_width(width: Width, r: u32) -> Width
     ensures { λ w. ⌜ w ≡ productWidth width r ⌝ }
 {
     match width {

@@ -2,8 +2,8 @@
 //
 // A step decides first and writes afterwards, so a stop leaves everything as it was. What this file
 // exports has no `requires` and one equation with a definition of specs/ as its whole contract; functions
-// between the modules may have a `requires`. `fresh`, `step`, `run` and `back` hand a state back; `entry`
-// and `fetch` are for tools that ask and write nothing.
+// between the modules may have a `requires`. `fresh`, `step`, `run` and `back` hand a state back;
+// `deck_sized`, `entry`, `fetch` and `product_width` are for tools that ask and write nothing.
 mod advance;
 mod change;
 mod check;
@@ -21,7 +21,9 @@ mod stop;
 mod undoing;
 mod verdict;
 
+pub use check::deck_sized;
 pub use decide::entry;
+pub use effect::product_width;
 pub use fetching::Fetched;
 pub use fetching::Operands;
 pub use fetching::fetch;
