@@ -39,6 +39,15 @@ struct Piece {
 }
 
 #[repr(C)]
+struct Finding {
+    number: u32,
+    found: u32,
+    order: u32,
+    kind: u32,
+    reg: u32,
+}
+
+#[repr(C)]
 #[derive(Clone, Copy)]
 pub struct Lent {
     registers: Registers,
@@ -101,6 +110,7 @@ extern "C" {
         protect_len: usize,
     ) -> Answer;
     fn panel_chart(bound: u16, rank: u32, cells: *mut u16, cells_len: usize) -> Piece;
+    fn panel_unset(deck: *const u16, deck_len: usize) -> Finding;
 }
 
 impl From<State> for Lent {
@@ -228,6 +238,21 @@ pub fn chart(bound: u16, rank: u32, cells: &mut [u16]) -> Result<(u32, u32), u8>
     let p = unsafe { panel_chart(bound, rank, cells.as_mut_ptr(), cells.len()) };
     match p.number {
         0 => Ok((p.total, p.written)),
+        n => Err(n as u8),
+    }
+}
+
+/// The order, the register's kind and its number, or the number of the refusal. What is not named is 0.
+#[inline]
+pub fn unset(deck: &[u16]) -> Result<Option<[u32; 3]>, u8> {
+    let f = unsafe { panel_unset(deck.as_ptr(), deck.len()) };
+    let named = [f.order, f.kind, f.reg];
+    match (f.number, f.found) {
+        (0, 1) => return Ok(Some(named)),
+        (_, found) => assert!(found == 0 && named == [0; 3]),
+    }
+    match f.number {
+        0 => Ok(None),
         n => Err(n as u8),
     }
 }

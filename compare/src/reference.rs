@@ -1,5 +1,6 @@
 //! Document 01 again, written from the papers in plain Rust: nothing here is shared with the proved code.
 use std::cmp::Ordering;
+use std::collections::VecDeque;
 
 /// The state of the desk.
 #[derive(Clone, Copy, PartialEq, Eq, Debug, Default)]
@@ -826,4 +827,93 @@ pub fn chart(n: u16, rank: u32, cells: &mut [u16]) -> Result<(u32, u32), u8> {
         }
     }
     Ok((total, (end / 4) as u32))
+}
+
+// ---- registers read before they are set
+
+/// A float register, or a general one of a set.
+#[derive(Clone, Copy, PartialEq, Eq)]
+enum Register {
+    Float(u16),
+    General(u16, u16),
+}
+
+use Register::{Float, General};
+
+/// Whether a register is R r, or for a long operand a member of pair r.
+fn names(long: bool, r: u16, register: Register) -> bool {
+    register == Float(r) || long && register == Float((r + 1) % 8)
+}
+
+fn has_pairs(code: u16) -> bool {
+    matches!(code, 3 | 7 | 8 | 13 | 14 | 16 | 27..=30 | 33 | 34)
+}
+
+/// Whether an order reads a register, where the set is selected: as its first operand, as its second, or as the index of one in
+/// storage.
+fn reads([code, r1, r2, _]: [u16; 4], set: u16, register: Register) -> bool {
+    let first = match code {
+        5..=8 | 11..=16 | 23..=34 => names(has_pairs(code), r1, register),
+        18 | 21 => register == General(set, r1),
+        _ => false,
+    };
+    let second = match code {
+        1 | 4 | 5 | 7 | 9 | 11 | 13 | 23 | 25 | 27 | 29 | 31 | 33 => names(has_pairs(code), r2, register),
+        10 => register == General(set, r2),
+        2 | 3 | 6 | 8 | 12 | 14..=18 | 24 | 26 | 28 | 30 | 32 | 34 => r2 != 0 && register == General(set, r2),
+        _ => false,
+    };
+    first || second
+}
+
+/// Whether it writes one. A short product fills a pair if r1 is even.
+fn writes([code, r1, _, _]: [u16; 4], set: u16, register: Register) -> bool {
+    match code {
+        1..=4 | 10..=14 | 23..=30 | 33 | 34 => names(has_pairs(code), r1, register),
+        31 | 32 => names(r1 % 2 == 0, r1, register),
+        9 | 17 | 21 => register == General(set, r1),
+        _ => false,
+    }
+}
+
+/// The lowest order that reads a register which some path from order 0 has not written: every order is visited, with each
+/// selector, that a path reaches through orders which do not write the register.
+fn first_read(orders: &[[u16; 4]], register: Register) -> Option<u32> {
+    let mut seen = vec![[false; 2]; orders.len()];
+    let mut queue = VecDeque::from([(0, 0)]);
+    let mut first = None;
+    while let Some((p, set)) = queue.pop_front() {
+        if p >= orders.len() || seen[p][set as usize] {
+            continue;
+        }
+        seen[p][set as usize] = true;
+        let cells @ [code, _, r2, at] = orders[p];
+        if reads(cells, set, register) && first.is_none_or(|lowest| p < lowest) {
+            first = Some(p);
+        }
+        if writes(cells, set, register) || code == 22 {
+            continue;
+        }
+        queue.push_back((p + 1, if code == 35 { r2 } else { set }));
+        if matches!(code, 20 | 21) {
+            queue.push_back((at as usize, set));
+        }
+    }
+    first.map(|p| p as u32)
+}
+
+/// The lowest order that reads a register which may not be set, and the register: 0 a float one, 1 of set 0, 2 of set 1, and its
+/// number.
+pub fn unset(deck: &[u16]) -> Result<Option<[u32; 3]>, u8> {
+    if deck.len() % 4 != 0 || deck.len() > 16_384 {
+        return Err(1);
+    }
+    let orders: Vec<[u16; 4]> = deck.chunks_exact(4).map(|o| [o[0], o[1], o[2], o[3]]).collect();
+    if !orders.iter().all(|o| legal(*o)) {
+        return Err(5);
+    }
+    let registers = (0..24u16).map(|k| if k < 8 { Float(k) } else { General(k / 8 - 1, k % 8) });
+    let found = registers.enumerate().filter_map(|(k, r)| first_read(&orders, r).map(|p| (p, k as u32)));
+    // of several with the lowest order the first one counts
+    Ok(found.min_by_key(|(p, _)| *p).map(|(p, k)| [p, k / 8, k % 8]))
 }

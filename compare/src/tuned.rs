@@ -737,3 +737,95 @@ pub fn chart(n: u16, rank: u32, cells: &mut [u16]) -> Result<(u32, u32), u8> {
     }
     Ok((total, (end / 4) as u32))
 }
+
+/// What an order reads and what it writes of the floats, then of the selected set, a bit a register.
+#[inline(always)]
+fn used([code, r1, r2, _]: [u16; 4]) -> (u32, u32) {
+    let general = |r: u16| 256 << r;
+    let float = |long: bool, r: u16| if long { 1 << r | 1 << ((r + 1) & 7) } else { 1 << r };
+    let long = matches!(code, 3 | 7 | 8 | 13 | 14 | 16 | 27..=30 | 33 | 34);
+    let index = if r2 == 0 { 0 } else { general(r2) };
+    let (first, second) = (float(long, r1), float(long, r2));
+    match code {
+        1 | 4 => (second, first),
+        2 | 3 => (index, first),
+        5 | 7 => (first | second, 0),
+        6 | 8 | 15 | 16 => (first | index, 0),
+        9 => (second, general(r1)),
+        10 => (general(r2), first),
+        11 | 13 | 23 | 25 | 27 | 29 | 33 => (first | second, first),
+        12 | 14 | 24 | 26 | 28 | 30 | 34 => (first | index, first),
+        17 => (index, general(r1)),
+        18 => (general(r1) | index, 0),
+        21 => (general(r1), general(r1)),
+        31 => (first | second, float(r1 & 1 == 0, r1)),
+        32 => (first | index, float(r1 & 1 == 0, r1)),
+        _ => (0, 0),
+    }
+}
+
+/// The same of the floats, set 0 and set 1.
+#[inline(always)]
+fn of_set(bits: u32, set: usize) -> u32 {
+    bits & 255 | (bits & 0xff00) << (8 * set)
+}
+
+/// Registers read before they are set, all 24 at a time: sweeps through the deck with what reaches each order unwritten, from
+/// the lowest order to which a jump back brought more.
+pub fn unset(deck: &[u16]) -> Result<Option<[u32; 3]>, u8> {
+    if deck.len() % 4 != 0 || deck.len() > 16_384 {
+        return Err(1);
+    }
+    let n = deck.len() / 4;
+    let cells = |p: usize| [deck[4 * p], deck[4 * p + 1], deck[4 * p + 2], deck[4 * p + 3]];
+    let legal = |o: [u16; 4]| {
+        let l = LIMITS[if o[0] < 36 { o[0] as usize } else { 0 }];
+        o[0].wrapping_sub(1) < 35 && o[1] <= l.0 && o[2] <= l.1 && o[3] <= l.2
+    };
+    if !(0..n).all(|p| legal(cells(p))) {
+        return Err(5);
+    }
+    // by order and set, what reaches it unwritten, and what of that went on from it
+    let mut bits = vec![[[0u32; 2]; 2]; n + 1];
+    bits[0][0][0] = 0xff_ffff;
+    let mut low = 0;
+    while low < n {
+        let from = low;
+        low = n;
+        for p in from..n {
+            if bits[p][0][0] == bits[p][0][1] && bits[p][1][0] == bits[p][1][1] {
+                continue;
+            }
+            let o = cells(p);
+            let (_, written) = used(o);
+            for set in 0..2 {
+                let [here, gone] = &mut bits[p][set];
+                if here == gone {
+                    continue;
+                }
+                *gone = *here;
+                let on = *here & !of_set(written, set);
+                if o[0] == 22 {
+                    continue;
+                }
+                bits[p + 1][if o[0] == 35 { (o[2] & 1) as usize } else { set }][0] |= on;
+                let at = o[3] as usize;
+                if matches!(o[0], 20 | 21) && at < n && bits[at][set][0] | on != bits[at][set][0] {
+                    bits[at][set][0] |= on;
+                    if at <= p {
+                        low = low.min(at);
+                    }
+                }
+            }
+        }
+    }
+    for p in 0..n {
+        let (read, _) = used(cells(p));
+        let unset = of_set(read, 0) & bits[p][0][0] | of_set(read, 1) & bits[p][1][0];
+        if unset != 0 {
+            let k = unset.trailing_zeros();
+            return Ok(Some([p as u32, k / 8, k % 8]));
+        }
+    }
+    Ok(None)
+}

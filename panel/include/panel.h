@@ -51,6 +51,15 @@ typedef struct {
     uint32_t written; /* how many of them were written */
 } panel_piece;
 
+/* What panel_unset answers. Where nothing is found, order, kind and reg are 0. */
+typedef struct {
+    uint32_t number; /* 0, 1 or 5 */
+    uint32_t found;  /* 1 if some order reads a register that may not be set, else 0 */
+    uint32_t order;  /* the lowest such order, counted from 0 */
+    uint32_t kind;   /* of the register: 0 float, 1 general of set 0, 2 general of set 1 */
+    uint32_t reg;    /* its number, 0 to 7 */
+} panel_finding;
+
 /* Makes the state fresh. Returns nothing. */
 void panel_fresh(panel_state *state);
 
@@ -97,5 +106,13 @@ panel_answer panel_read(const uint8_t *text, size_t text_bytes, uint16_t *cells,
  * past it stay. The number is 0, or 19 where cells_count is no multiple of 4; then nothing is written. The time is that of
  * the orders written, wherever the piece begins. */
 panel_piece panel_chart(uint16_t bound, uint32_t rank, uint16_t *cells, size_t cells_count);
+
+/* Finds the lowest order of a deck that reads a float or general register which some path from order 0 reaches without
+ * having written it, and names the register: floats first, then set 0, then set 1, lowest number first. A path takes each JC
+ * and JN either way, whatever JC's mask, and goes on past orders that would be stopped by 6 to 11; HALT and the deck's end
+ * end it. The selector is 0 at order 0 and follows each SET on the path. Pairs count both members, index registers count, and
+ * JN reads its register before it writes it. The number is 0, or 1 for a deck of the wrong size, or 5 where some order is not
+ * legal, reached or not; then nothing is found. It writes nothing, and needs more stack than the others: docs/PANEL.md. */
+panel_finding panel_unset(const uint16_t *deck, size_t deck_cells);
 
 #endif

@@ -338,13 +338,68 @@ fn charting(r: &mut Random) -> u64 {
     1
 }
 
+/// A deck in which most registers are loaded before they are read: loads of either set and without index, and now and then any
+/// other order, in the second half more often; seldom damaged, or of a wrong length.
+fn loaded(r: &mut Random) -> Vec<u16> {
+    let orders = match r.below(400) {
+        0 => 4_096,
+        1..=10 => 0,
+        11..=200 => r.below(12),
+        _ => r.below(80),
+    };
+    let mut deck: Vec<u16> = (0..orders).flat_map(|p| {
+        let register = r.below(8) as u16;
+        let other = if 2 * p < orders { r.chance(10) } else { r.chance(2) };
+        match r.below(24) {
+            _ if other => sound(r, orders),
+            0 => [35, 0, r.below(2) as u16, 0],
+            1 => [20, r.below(8) as u16, 0, r.below(orders + 1) as u16],
+            2 => [21, register, 0, r.below(orders + 1) as u16],
+            // a square, which sets the second of an even pair
+            3 => [31, register, register, 0],
+            4..=10 => [2, register, 0, 0],
+            _ => [17, register, 0, 0],
+        }
+    }).collect();
+    if r.chance(20) && !deck.is_empty() {
+        let at = r.below(deck.len() as u64) as usize;
+        deck[at] = (r.below(70_000) >> r.below(17)) as u16;
+    }
+    match r.below(60) {
+        0 => deck.truncate(deck.len() - r.below(4).min(orders) as usize),
+        1 => deck.resize(16_384 + r.below(6) as usize, 0),
+        _ => {}
+    }
+    deck
+}
+
+fn sound(r: &mut Random, orders: u64) -> [u16; 4] {
+    loop {
+        let cells = order(r, orders, 40);
+        if reference::legal(cells) {
+            return cells;
+        }
+    }
+}
+
+/// The first order that reads a register which may not be set; nothing is written.
+fn questioning(r: &mut Random) -> u64 {
+    let deck = loaded(r);
+    let mut lent = Guarded::new(&deck, 0xA5A5);
+    let theirs = panel::unset(lent.inner());
+    let (ours, quick) = (reference::unset(&deck), tuned::unset(&deck));
+    assert!(ours == quick, "{ours:?}, and in the tuned search {quick:?}: {deck:?}");
+    assert!(ours == theirs && lent.is(&deck), "{ours:?} here, {theirs:?} in the panel library: {deck:?}");
+    1
+}
+
 fn main() {
     let seed = std::env::args().nth(1).and_then(|s| s.parse().ok()).unwrap_or(20_261_115);
     let mut r = Random::new(seed);
     let mut lent = Lent::from(state(&mut r));
     panel::fresh(&mut lent);
     assert!(State::from(lent) == State::default());
-    let (mut calls, mut texts, mut charts) = (1, 0, 0);
+    let (mut calls, mut texts, mut charts, mut searches) = (1, 0, 0, 0);
     while calls < CALLS {
         if r.chance(3) {
             texts += 1;
@@ -356,8 +411,13 @@ fn main() {
             charts += 1;
             calls += charting(&mut r);
         }
+        if r.chance(2) {
+            searches += 1;
+            calls += questioning(&mut r);
+        }
     }
     println!(
-        "{calls} calls, {texts} of them texts, {charts} pieces of a chart, and before each other one the question why: 0 differences (seed {seed})"
+        "{calls} calls, {texts} of them texts, {charts} pieces of a chart, {searches} searches for registers that are not set, \
+         and before each other one the question why: 0 differences (seed {seed})"
     );
 }

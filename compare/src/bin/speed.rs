@@ -1,5 +1,6 @@
-//! Nanoseconds per step (or per byte of text, or per order of the chart), the proved library beside the two plain implementations: all release
-//! builds, the same inputs, one run, the three sides alternating. The median of the rounds counts.
+//! Nanoseconds per step (or per byte of text, per order of the chart, per order of a deck that is searched), the proved library
+//! beside the two plain implementations: all release builds, the same inputs, one run, the three sides alternating. The median
+//! of the rounds counts.
 use compare::panel::{self, Lent};
 use compare::random::Random;
 use compare::reference::{self, Buffers, State, MNEMONICS};
@@ -227,6 +228,73 @@ fn charting(name: &'static str, bound: u16) -> Row {
     )
 }
 
+/// The search of a deck for registers read before they are set.
+fn searching(name: &'static str, orders: &[[u16; 4]], found: [u32; 3]) -> Row {
+    let deck: Vec<u16> = orders.iter().copied().flatten().collect();
+    let found = Ok(Some(found));
+    assert_eq!([panel::unset(&deck), reference::unset(&deck), tuned::unset(&deck)], [found; 3]);
+    measure(
+        name,
+        "ns/order",
+        orders.len() as f64,
+        [
+            &mut || assert_eq!(panel::unset(black_box(&deck)), found),
+            &mut || assert_eq!(reference::unset(black_box(&deck)), found),
+            &mut || assert_eq!(tuned::unset(black_box(&deck)), found),
+        ],
+    )
+}
+
+/// 4,096 orders that load and use half of the registers, with loops and both sets; the last one reads one of the other half.
+fn half_used() -> Vec<[u16; 4]> {
+    let loop_of = |p: u16| {
+        [
+            [17, 1, 0, 0],
+            [35, 0, p / 16 % 2, 0],
+            [17, 1, 0, 0],
+            [17, 2, 1, 4],
+            [2, 0, 1, 8],
+            [3, 2, 0, 12],
+            [23, 0, 3, 0],
+            [20, 4, 0, p + 9],
+            [25, 0, 2, 0],
+            [33, 2, 2, 0],
+            [9, 3, 0, 0],
+            [10, 1, 3, 0],
+            [5, 0, 1, 0],
+            [20, 2, 0, p + 4],
+            [16, 2, 2, 16],
+            [21, 2, 0, p + 3],
+        ]
+    };
+    let mut deck: Vec<[u16; 4]> = (0..256).flat_map(|k| loop_of(16 * k)).collect();
+    deck[4_095] = [1, 0, 7, 0];
+    deck
+}
+
+/// 4,096 orders of which most are taken up once for each register: before them the deck branches into a part for each, and that
+/// part loads every register but this one.
+fn one_by_one() -> Vec<[u16; 4]> {
+    const PART: u16 = 27;
+    let start = |k: u16| 24 + PART * k;
+    let tail = start(24);
+    let mut deck: Vec<[u16; 4]> = (0..24).map(|k| [20, 7, 0, start(k)]).collect();
+    for k in 0..24 {
+        deck.extend((0..8).map(|r| if r == k { [19, 0, 0, 0] } else { [2, r, 0, 0] }));
+        for set in [1, 0] {
+            deck.push([35, 0, set, 0]);
+            deck.extend((0..8).map(|r| if 8 + 8 * set + r == k { [19, 0, 0, 0] } else { [17, r, 0, 0] }));
+        }
+        deck.push([20, 7, 0, tail]);
+    }
+    deck.push([20, 7, 0, tail + 2]);
+    deck.push([35, 0, 1, 0]);
+    // either set, in jumps that lead back
+    deck.extend((deck.len() as u16..4_095).map(|p| [20, 7, 0, p - 1]));
+    deck.push([18, 7, 0, 0]);
+    deck
+}
+
 fn drawn(rows: &[Row]) -> String {
     let height = 82 + 50 * rows.len();
     let mut out = format!(
@@ -325,6 +393,8 @@ fn main() {
         run("(n) general registers of both sets", &both_sets, two_tables, words(r, 0xff_ffff)),
         charting("(o) the chart of orders, bound 100", 100),
         charting("(p) the chart of orders, bound 1", 1),
+        searching("(q) unset registers, half in use", &half_used(), [4_095, 0, 7]),
+        searching("(r) unset registers, one at a time", &one_by_one(), [4_095, 1, 7]),
     ];
     println!("{:<36} {:>8} {:>8} {:>8} {:>9} {:>9}", "", "proved", "plain", "tuned", "to plain", "to tuned");
     for r in &rows {

@@ -1,10 +1,13 @@
 // The bench panel's functions, for C. Those over a lent state copy it out, call the function on
 // values, and store the state that comes back. None has a `requires`. What a call answers comes back
 // by value, so that a refusal writes nothing at all.
+mod finding;
 mod value;
 
 use chart::Charted;
 use decktext::Reading;
+use finding::Finding;
+use finding::told;
 use machine::State;
 use value::Answer;
 use value::Explanation;
@@ -26,6 +29,7 @@ ghost use Rattle.decktext.specs.Read.{buffers, readText};
 ghost use Rattle.panel.specs.Chart.{pieceOf};
 ghost use Rattle.panel.specs.Explain.{explanationOf};
 ghost use Rattle.panel.specs.Reply.{reply, replied};
+ghost use Rattle.panel.specs.Unset.{Tells};
 
 // The state of a machine that was just switched on.
 #[no_mangle]
@@ -148,4 +152,12 @@ pub extern "C" fn panel_chart(bound: u16, rank: u32, cells: &mut [u16]) -> Piece
             written,
         },
     }
+}
+
+// The lowest order that reads a register which some path reaches it without having written; nothing is written.
+#[no_mangle]
+pub extern "C" fn panel_unset(deck: &[u16]) -> Finding
+    ensures { λ r. ⌜ Tells (now (deck .entry)) r ⌝ }
+{
+    told(unset::first_unset(deck))
 }

@@ -93,3 +93,11 @@ pub fn number_at(base: u32, text: &[u8], at: usize, digits: usize) -> Number {
     }
     Number::Value(n as u32)
 }
+
+// A cell becomes the value, cut to 16 bits; none does where there is no such cell.
+pub fn change(cells: &mut [u16], place: u32, value: u32) {
+    let i = place as usize;
+    if i < cells.len() {
+        cells[i] = (value % 65536) as u16;
+    }
+}

@@ -14,6 +14,7 @@ pub use calling::list;
 pub use input::Input;
 pub use input::Number;
 pub use input::case_begins;
+pub use input::change;
 pub use input::complain;
 pub use input::number_at;
 pub use input::read_bytes;

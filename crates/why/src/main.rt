@@ -56,13 +56,6 @@ struct Task {
     value: u32,
 }
 
-fn change(deck: &mut [u16], place: u32, value: u32) {
-    let i = place as usize;
-    if i < deck.len() {
-        deck[i] = (value % 65536) as u16;
-    }
-}
-
 // The steps, the change and the question, on the deck of `count` orders.
 fn ask(
     task: Task,
@@ -78,7 +71,7 @@ fn ask(
     }
     let deck = &mut cells[..n];
     let ran = machine::run(machine::fresh(), deck, memory, protect, journal, task.steps);
-    change(deck, task.place, task.value);
+    trial::change(deck, task.place, task.value);
     let state = ran.state;
     trial::write(line_of(cause::why(state, deck, memory, protect, journal)))
 }

@@ -1,0 +1,10 @@
+pub mod Arrivals
+pub mod Exploring
+pub mod Lowest
+pub mod Points
+pub mod Registers
+pub mod Sized
+pub mod Stack
+pub mod Taken
+pub mod Theorems
+pub mod Words
