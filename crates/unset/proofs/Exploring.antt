@@ -18,7 +18,7 @@ use Rattle.unset.specs.declared.path.Point.{Point}
 use Rattle.unset.specs.Answer.{Checked}
 use Rattle.unset.specs.Bits.{registerOf, inWord, bitsOf, all, without}
 use Rattle.unset.specs.Path.{point, start, nexts, OrderAt, Writes, Leads, Path, begins, goes, Along, ReachedUnwritten}
-use Rattle.unset.specs.Search.{Search, searchOf, wordAt, waits, stacked, reached, reachedAll, popped, indexOf, pointOf, places, trues, Stacked, TakenUp, Explored}
+use Rattle.unset.specs.Search.{Search, searchOf, wordAt, waits, stacked, reached, reachedAll, popped, indexOf, pointOf, places, trues, Stacked, TakenUp, Zeros, Explored}
 use Rattle.unset.proofs.Arrivals.{Reached, reached-one, reached-all}
 use Rattle.unset.proofs.Points.{point-back, place-back, next-small, path-small}
 use Rattle.unset.proofs.Registers.{numbered, proper-written}
@@ -186,12 +186,15 @@ unfolding trues
 filled-calm zero = refl
 filled-calm (suc m) = filled-calm m
 
-pub blank : (m : ℕ) → m ≡ places → Blank (searchOf (replicate m 0) (replicate m false) (replicate m 0) 0)
-blank m e = record {
-  words = length-replicate m 0 ∙ e;
+pub zeros : (m : ℕ) → m ≡ places → Zeros (replicate m 0)
+zeros m e = record { words = length-replicate m 0 ∙ e; zeros = λ i. filled-at m i 0 }
+
+pub blank : (u : List ℕ) (m : ℕ) → Zeros u → m ≡ places → Blank (searchOf u (replicate m false) (replicate m 0) 0)
+blank u m z e = record {
+  words = z .words;
   flags = length-replicate m false ∙ e;
   cells = length-replicate m 0 ∙ e;
-  zeros = λ i. filled-at m i 0;
+  zeros = z .zeros;
   calm = filled-calm m;
   top = refl;
 }

@@ -106,6 +106,11 @@ pub record TakenUp (d : List ℕ) (i : ℕ) (s t : Search) : Type 0 where
       t ≡ reachedAll (length d / 4) (nexts (operation .verb) (orderAt d (i / 2)) (pointOf i))
       (without (wordAt s i) (bitsOf (writtenBy operation (orderAt d (i / 2)) (i % 2)))) s
 
+-- a word for each place, all 0
+pub record Zeros (u : List ℕ) : Type 0 where
+  pub words : length u ≡ places
+  pub zeros : (i : ℕ) → getD u i 0 ≡ 0
+
 -- what the search finds: at each point of the deck the registers that some path reaches it without having written
 pub record Explored (d : List ℕ) (u : List ℕ) : Type 0 where
   pub only : (i k : ℕ) → k < 24 → inWord k (getD u i 0) ≡ true → ReachedUnwritten d (registerOf k) (pointOf i)

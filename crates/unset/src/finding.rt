@@ -87,6 +87,7 @@ pub fn first_unset(deck: &[u16]) -> Found
     if !all_legal(deck) {
         return Found::IllegalOrder;
     }
-    let unwritten = explore(deck);
+    let mut unwritten: [u32; 8192] = [0; 8192];
+    explore(deck, &mut unwritten);
     lowest(deck, &unwritten)
 }

@@ -9,7 +9,7 @@ ghost use mathlib.Core.Path.{_≡_};
 ghost use Prim.Native.Nat.{_≤_};
 ghost use Rattle.unset.specs.Answer.{Checked};
 ghost use Rattle.unset.specs.Bits.{without};
-ghost use Rattle.unset.specs.Search.{searchOf, arrived, reached, Arriving, Stacked, Takeable, TakenUp, Explored};
+ghost use Rattle.unset.specs.Search.{searchOf, arrived, reached, Arriving, Stacked, Takeable, TakenUp, Zeros, Explored};
 
 // All 24 registers: nothing is written where a path starts.
 const ALL: u32 = 16777215;
@@ -106,33 +106,23 @@ fn take_up(
     next
 }
 
-// Which registers reach each place unwritten.
-pub fn explore(deck: &[u16]) -> [u32; 8192]
-    requires { ⌜ Checked (now deck) ⌝ }
-    ensures { λ u. ⌜ Explored (now (deck .entry)) u ⌝ }
+// Which registers reach each place unwritten, into words that are 0.
+pub fn explore(deck: &[u16], unwritten: &mut [u32; 8192])
+    requires { ⌜ Checked (now deck) × Zeros (now unwritten) ⌝ }
+    ensures { λ _. ⌜ Explored (now (deck .entry)) (now (unwritten .exit)) ⌝ }
 {
     let orders = (deck.len() / 4) as u32;
-    let mut unwritten: [u32; 8192] = [0; 8192];
     let mut waiting: [bool; 8192] = [false; 8192];
     let mut stack: [u16; 8192] = [0; 8192];
     let start = Point {
         order: 0,
         selector: 0,
     };
-    let mut top = reach(
-        &mut unwritten,
-        &mut waiting,
-        &mut stack,
-        0,
-        orders,
-        start,
-        ALL,
-    );
+    let mut top = reach(unwritten, &mut waiting, &mut stack, 0, orders, start, ALL);
     while 0 < top {
         top -= 1;
         let place = stack[top] as usize;
         waiting[place] = false;
-        top = take_up(deck, &mut unwritten, &mut waiting, &mut stack, top, place);
+        top = take_up(deck, unwritten, &mut waiting, &mut stack, top, place);
     }
-    unwritten
 }

@@ -1,10 +1,11 @@
 -- `unset::finding::first_unset` meets its contract: checks 1 and 5, and what the search finds.
 -- Assumes nothing.
-use mathlib.Core.Path.{sym, subst, _∙_}
+use mathlib.Core.Path.{refl, sym, subst, _∙_}
 use borrow.Author.Needs.{needs}
 use borrow.Author.Tests.{not-true, not-false}
 use Rattle.unset.specs.Answer.{Answers, Checked}
 use Rattle.unset.specs.Finding.{SaysAllLegal}
+use Rattle.unset.proofs.Exploring.{zeros}
 use Rattle.unset.proofs.Sized.{few-cells}
 use Rattle.unset.proofs.finding.first_unset.Statement.{statement}
 use Rattle.unset.proofs.finding.first_unset.Tie as tie
@@ -36,10 +37,10 @@ checked c =
     }
 
 explore-requires : tie.Need-explore-requires
-explore-requires c κs = checked c
+explore-requires c κs = (checked (c .before), zeros 8192 refl)
 
 lowest-requires : tie.Need-lowest-requires
-lowest-requires c κs = record { checked = checked (c .before .before); explored = c .before .explore .ensures }
+lowest-requires c κs = record { checked = checked (c .before .before .before); explored = c .before .explore .ensures }
 
 returns-3 : tie.Need-returns-3
 returns-3 c = search needs

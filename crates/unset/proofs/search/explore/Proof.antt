@@ -12,10 +12,10 @@ use Rattle.unset.proofs.search.explore.Statement.{statement}
 use Rattle.unset.proofs.search.explore.Tie as tie
 
 abbrev Inv-loop : tie.InvT-loop
-Inv-loop deck orders unwritten₀ waiting₀ stack₀ top₀ unwritten waiting stack top = Searching deck (searchOf unwritten waiting stack top)
+Inv-loop deck unwritten₀ orders waiting₀ stack₀ top₀ unwritten waiting stack top = Searching deck (searchOf unwritten waiting stack top)
 
 abbrev μ-loop : tie.MeasureT-loop
-μ-loop deck orders unwritten₀ waiting₀ stack₀ top₀ unwritten waiting stack top = left (searchOf unwritten waiting stack top)
+μ-loop deck unwritten₀ orders waiting₀ stack₀ top₀ unwritten waiting stack top = left (searchOf unwritten waiting stack top)
 
 -- the place on top of the stack is of the deck, and has its cell
 place-inside :
@@ -34,13 +34,13 @@ onward :
 onward c = searching-on _ _ _ (c .before .before .before .before .before .loop .inv) (c .before .before .before .before .loop-test .taken) (c .take-up .ensures)
 
 cast-orders : tie.Need-cast-orders Inv-loop μ-loop
-cast-orders c = record { fits = omega (arith, few-cells _ (c .before .pre .sized)) }
+cast-orders c = record { fits = omega (arith, few-cells _ (c .before .pre .0 .sized)) }
 
 reach-requires : tie.Need-reach-requires Inv-loop μ-loop
-reach-requires c κs = (blank-stacked _ _ (blank 8192 refl), few-orders _ (c .before .before .before .before .pre), omega arith)
+reach-requires c κs = (blank-stacked _ _ (blank _ 8192 (c .before .before .before .before .pre .1) refl), few-orders _ (c .before .before .before .before .pre .0), omega arith)
 
 loop-holds : tie.Need-loop-holds Inv-loop μ-loop
-loop-holds c = subst (Searching _) (sym (c .reach .ensures)) (searching-starts _ _ (few-orders _ (c .before .before .before .before .before .pre)) (blank 8192 refl))
+loop-holds c = subst (Searching _) (sym (c .reach .ensures)) (searching-starts _ _ (few-orders _ (c .before .before .before .before .before .pre .0)) (blank _ 8192 (c .before .before .before .before .before .pre .1) refl))
 
 sub-top : tie.Need-sub-top Inv-loop μ-loop
 sub-top c = omega arith
@@ -59,7 +59,7 @@ array-write-waiting c = omega (arith, place-inside c, c .before .loop .inv .few)
 
 take-up-requires : tie.Need-take-up-requires Inv-loop μ-loop
 take-up-requires c κs = record {
-  checked = c .before .before .before .before .before .before .before .before .before .before .pre;
+  checked = c .before .before .before .before .before .before .before .before .before .before .pre .0;
   stack = stacked-popped _ _ (c .before .before .before .before .loop .inv .stack) (c .before .before .before .loop-test .taken);
   inside = place-inside (c .before .before .before);
 }
