@@ -14,7 +14,7 @@ use Rattle.orders.specs.declared.order.Verb.{Verb}
 use Rattle.orders.specs.Order.{orderAt, legalOf, isHalt}
 use Rattle.machine.proofs.Rows.{bitFits, legal-passed}
 use Rattle.unset.specs.declared.path.Point.{Point}
-use Rattle.unset.specs.Path.{point, isSelect, selectorAfter, isJump, nexts, Leads, Path, begins, goes}
+use Rattle.unset.specs.Path.{point, isSelect, selectorAfter, isJump, mayJump, nexts, Leads, Path, begins, goes}
 use Rattle.unset.specs.Search.{indexOf, pointOf}
 
 -- the point of a place, and the place of a point
@@ -26,6 +26,11 @@ point-back x h =
 
 pub place-back : (i : ℕ) → indexOf (pointOf i) ≡ i
 place-back i = omega arith
+
+-- JC and JN may jump, whatever their cells
+pub may-jump : (v : Verb) (o : Order) → mayJump v o ≡ isJump v
+unfolding mayJump
+may-jump v o = refl
 
 -- SET's r2 is 0 or 1
 set-small : (v : Verb) (r limit s : ℕ) → bitFits v limit ≡ true → r ≤ limit → s ≤ 1 → cond (isSelect v) r s ≤ 1
@@ -55,7 +60,7 @@ after-small o op s legal h = let w = legal-passed o op legal in set-small (op .v
 pub next-small :
     (o : Order) (op : Operation) (x y : Point) → legalOf o ≡ gives op → x .selector ≤ 1 → List·Memᴰ y (nexts (op .verb) o x) → y .selector ≤ 1
 unfolding nexts
-next-small o op x y legal h m = cases (isHalt (op .verb)) (isJump (op .verb)) (after-small o op (x .selector) legal h) m
+next-small o op x y legal h m = cases (isHalt (op .verb)) (mayJump (op .verb) o) (after-small o op (x .selector) legal h) m
   where
     on : Point
     on = point (x .order + 1) (selectorAfter (op .verb) o (x .selector))

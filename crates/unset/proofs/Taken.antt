@@ -15,6 +15,7 @@ use Rattle.unset.specs.Bits.{bitsOf, without}
 use Rattle.unset.specs.Path.{point, selectorAfter, isJump, nexts}
 use Rattle.unset.specs.Search.{Search, wordAt, reached, reachedAll, Stacked, TakenUp}
 use Rattle.unset.proofs.Arrivals.{reached-one}
+use Rattle.unset.proofs.Points.{may-jump}
 use Rattle.unset.proofs.Registers.{numbered, proper-written}
 use Rattle.unset.proofs.Words.{bits-small, without-small}
 
@@ -42,7 +43,7 @@ module _ (d : List ℕ) (i : ℕ) (s : Search) (op : Operation) (o : Order) (b t
   taken-on j = record {
     operation = op;
     legal = h .legal;
-    after = rw (h .goes, j, h .selector, h .bits, h .order);
+    after = rw (h .goes, may-jump (op .verb) (orderAt d (i / 2)), j, h .selector, h .bits, h .order);
   }
 
   pub taken-either : isJump (op .verb) ≡ true → TakenUp d i s (reached (length d / 4) (point (o .at) (i % 2)) b on)
@@ -50,5 +51,5 @@ module _ (d : List ℕ) (i : ℕ) (s : Search) (op : Operation) (o : Order) (b t
   taken-either j = record {
     operation = op;
     legal = h .legal;
-    after = rw (h .goes, j, h .selector, h .bits, h .order);
+    after = rw (h .goes, may-jump (op .verb) (orderAt d (i / 2)), j, h .selector, h .bits, h .order);
   }

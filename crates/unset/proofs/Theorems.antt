@@ -1,4 +1,5 @@
 -- A deck has one answer: the checks stand in one order, and of the orders, and of an order's registers, one is the lowest.
+-- The other theorems are of Along and Independent.
 use Prim.Native.Nat.{ℕ, _<_}
 use mathlib.Core.Path.{_≡_, refl, sym, ap, ap₂, subst, _∙_}
 use mathlib.Core.List.{List}
@@ -12,6 +13,8 @@ use Rattle.hexfloat.proofs.Answers.{never}
 use Rattle.unset.specs.Answer.{rank, LowestUnset, Finding, unset, Answers, wrong-size, illegal, none, lowest}
 use Rattle.unset.specs.Bits.{registerOf}
 use Rattle.unset.specs.Theorems.{Theorems}
+use Rattle.unset.proofs.Along.{along}
+use Rattle.unset.proofs.Independent.{nothing-unset}
 use Rattle.unset.proofs.Words.{of-rank}
 use Rattle.unset.proofs.Lowest.{proper-unset}
 
@@ -58,4 +61,4 @@ one-answer d a b (lowest {p} {r} c l) (none k n) = absurd (n p r (l .unset))
 one-answer d a b (lowest {p} {r} c l) (lowest {p = q} {r = t} k m) = ap gives (same-lowest d p q r t l m)
 
 pub theorems : Theorems
-theorems = record { one-answer = one-answer }
+theorems = record { one-answer = one-answer; along = along; nothing-unset = nothing-unset }

@@ -62,11 +62,15 @@ isJump (Verb.Sum sense) = false
 isJump Verb.Multiply = false
 isJump Verb.Select = false
 
--- where a path may go from a point: HALT ends it; JC and JN are taken either way, whatever JC's mask; any other order goes on by one
+-- an order after which a path may be at `at`: JC and JN, whatever JC's mask
+unfoldable pub mayJump : Verb → Order → Bool
+mayJump v o = isJump v
+
+-- where a path may go from a point: HALT ends it; any other order goes on by one, and JC and JN may go to `at` too
 unfoldable pub nexts : Verb → Order → Point → List Point
 nexts v o x =
     cond (isHalt v) []
-    (point (x .order + 1) (selectorAfter v o (x .selector)) ∷ cond (isJump v) (point (o .at) (x .selector) ∷ []) [])
+    (point (x .order + 1) (selectorAfter v o (x .selector)) ∷ cond (mayJump v o) (point (o .at) (x .selector) ∷ []) [])
 
 -- there is a legal order at a point; at or past the deck's end there is none
 pub record OrderAt (d : List ℕ) (x : Point) : Type 0 where

@@ -52,7 +52,7 @@ fn first_read(verb: Verb, width: Width, o: Order, s: u32) -> u32
         Verb::StoreGeneral => general_bit(s, o.r1),
         Verb::SetMask => 0,
         Verb::Jump => 0,
-        Verb::CountDown => general_bit(s, o.r1),
+        Verb::CountDown => general_bit(s, o.r1), // it reads first, then writes
         Verb::Halt => 0,
         Verb::Sum(_) => float_bits(width, o.r1),
         Verb::Multiply => float_bits(width, o.r1),
