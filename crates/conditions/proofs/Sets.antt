@@ -20,7 +20,7 @@ use Rattle.orders.specs.declared.order.Operation.{Operation}
 use Rattle.orders.specs.declared.order.Order.{Order}
 use Rattle.orders.specs.declared.order.Verb.{Verb}
 use Rattle.orders.specs.General.{generalCell, generalAt}
-use Rattle.orders.specs.Order.{rows, orderAt}
+use Rattle.orders.specs.Order.{rows, orderAt, isSelect}
 use Rattle.orders.proofs.Passing.{legal-row}
 use Rattle.orders.proofs.Table.{allRows, row-passes}
 use Rattle.protection.specs.Form.{ProtectList}
@@ -37,30 +37,12 @@ use Rattle.machine.specs.Step.{outcome, onward, verdictOf, stepped}
 use Rattle.machine.proofs.Decided.{Taken, decided-taken}
 use Rattle.conditions.specs.Theorems.{OneSetAfter, OneSet}
 
-unfoldable isSelect : Verb → Bool
-isSelect Verb.Load = false
-isSelect Verb.Complement = false
-isSelect Verb.Compare = false
-isSelect Verb.Fix = false
-isSelect Verb.Float = false
-isSelect Verb.Divide = false
-isSelect Verb.Store = false
-isSelect Verb.LoadGeneral = false
-isSelect Verb.StoreGeneral = false
-isSelect Verb.SetMask = false
-isSelect Verb.Jump = false
-isSelect Verb.CountDown = false
-isSelect Verb.Halt = false
-isSelect (Verb.Sum s) = false
-isSelect Verb.Multiply = false
-isSelect Verb.Select = true
-
 -- no other row than that of code 35 has its verb
 unfoldable onlySet : ℕ → Operation → Bool
 onlySet code op = not (isSelect (op .verb)) || eqb code 35
 
 rows-set : allRows onlySet rows 1 ≡ true
-unfolding allRows onlySet isSelect
+unfolding allRows onlySet
 rows-set = refl
 
 module _ (o : Order) (g : Registers) (e : Effect) where
@@ -76,7 +58,7 @@ module _ (o : Order) (g : Registers) (e : Effect) where
   as-result sets u r h = as-mapped (resultInto sets u (g .status) (o .r1)) r (λ a. refl) h
 
   performed-selector : (v : Verb) (w : Width) (a : ℕ) (b : Words) → isSelect v ≡ false → performed v w o g a b ≡ gives e → e .status .selector ≡ g .status .selector
-  unfolding performed jumped countedDown isSelect
+  unfolding performed jumped countedDown
   performed-selector Verb.Load w a b n h = as-given h
   performed-selector Verb.Complement w a b n h = as-given h
   performed-selector Verb.Compare w a b n h = as-given h

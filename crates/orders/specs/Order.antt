@@ -142,6 +142,7 @@ storedAs Verb.Select w = 0
 abbrev pub storedOf : Operation → ℕ
 storedOf op = storedAs (op .verb) (op .width)
 
+-- HALT
 abbrev pub isHalt : Verb → Bool
 isHalt Verb.Load = false
 isHalt Verb.Complement = false
@@ -159,3 +160,41 @@ isHalt Verb.Halt = true
 isHalt (Verb.Sum s) = false
 isHalt Verb.Multiply = false
 isHalt Verb.Select = false
+
+-- JC and JN
+abbrev pub isJump : Verb → Bool
+isJump Verb.Load = false
+isJump Verb.Complement = false
+isJump Verb.Compare = false
+isJump Verb.Fix = false
+isJump Verb.Float = false
+isJump Verb.Divide = false
+isJump Verb.Store = false
+isJump Verb.LoadGeneral = false
+isJump Verb.StoreGeneral = false
+isJump Verb.SetMask = false
+isJump Verb.Jump = true
+isJump Verb.CountDown = true
+isJump Verb.Halt = false
+isJump (Verb.Sum s) = false
+isJump Verb.Multiply = false
+isJump Verb.Select = false
+
+-- SET
+abbrev pub isSelect : Verb → Bool
+isSelect Verb.Load = false
+isSelect Verb.Complement = false
+isSelect Verb.Compare = false
+isSelect Verb.Fix = false
+isSelect Verb.Float = false
+isSelect Verb.Divide = false
+isSelect Verb.Store = false
+isSelect Verb.LoadGeneral = false
+isSelect Verb.StoreGeneral = false
+isSelect Verb.SetMask = false
+isSelect Verb.Jump = false
+isSelect Verb.CountDown = false
+isSelect Verb.Halt = false
+isSelect (Verb.Sum s) = false
+isSelect Verb.Multiply = false
+isSelect Verb.Select = true

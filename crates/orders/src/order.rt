@@ -3,7 +3,7 @@ use hexfloat::Sense;
 use hexfloat::Width;
 ghost use mathlib.Core.Path.{_≡_};
 ghost use Rattle.hexfloat.specs.Answer.{gives};
-ghost use Rattle.orders.specs.Order.{row, onFloat, onGeneral, onStorage, onCells, operationOf, legalOf, saysLegality, spanOf, storedOf, halfwords, isHalt};
+ghost use Rattle.orders.specs.Order.{row, onFloat, onGeneral, onStorage, onCells, operationOf, legalOf, saysLegality, spanOf, storedOf, halfwords, isHalt, isJump, isSelect};
 
 // The four cells of an order.
 pub struct Order {
@@ -208,6 +208,7 @@ pub fn stored(op: Operation) -> u32
     }
 }
 
+// HALT.
 pub fn halts(verb: Verb) -> bool
     ensures { λ r. ⌜ r ≡ isHalt verb ⌝ }
 {
@@ -228,5 +229,53 @@ pub fn halts(verb: Verb) -> bool
         Verb::Sum(_) => false,
         Verb::Multiply => false,
         Verb::Select => false,
+    }
+}
+
+// JC and JN.
+pub fn jumps(verb: Verb) -> bool
+    ensures { λ r. ⌜ r ≡ isJump verb ⌝ }
+{
+    match verb {
+        Verb::Load => false,
+        Verb::Complement => false,
+        Verb::Compare => false,
+        Verb::Fix => false,
+        Verb::Float => false,
+        Verb::Divide => false,
+        Verb::Store => false,
+        Verb::LoadGeneral => false,
+        Verb::StoreGeneral => false,
+        Verb::SetMask => false,
+        Verb::Jump => true,
+        Verb::CountDown => true,
+        Verb::Halt => false,
+        Verb::Sum(_) => false,
+        Verb::Multiply => false,
+        Verb::Select => false,
+    }
+}
+
+// SET.
+pub fn selects(verb: Verb) -> bool
+    ensures { λ r. ⌜ r ≡ isSelect verb ⌝ }
+{
+    match verb {
+        Verb::Load => false,
+        Verb::Complement => false,
+        Verb::Compare => false,
+        Verb::Fix => false,
+        Verb::Float => false,
+        Verb::Divide => false,
+        Verb::Store => false,
+        Verb::LoadGeneral => false,
+        Verb::StoreGeneral => false,
+        Verb::SetMask => false,
+        Verb::Jump => false,
+        Verb::CountDown => false,
+        Verb::Halt => false,
+        Verb::Sum(_) => false,
+        Verb::Multiply => false,
+        Verb::Select => true,
     }
 }

@@ -17,7 +17,7 @@ use Rattle.hexfloat.proofs.Answers.{gives-inj, never, mapped-gives, provided-gi
 use Rattle.orders.specs.declared.order.Order.{Order}
 use Rattle.orders.specs.declared.order.Verb.{Verb}
 use Rattle.orders.specs.General.{generalAt}
-use Rattle.orders.specs.Order.{isHalt}
+use Rattle.orders.specs.Order.{isHalt, isJump}
 use Rattle.protection.specs.Form.{ProtectList}
 use Rattle.machine.specs.declared.state.Registers.{Registers}
 use Rattle.machine.specs.declared.verdict.Effect.{Effect}
@@ -30,7 +30,7 @@ use Rattle.machine.specs.Step.{Outcome, outcome, onward, nextOrder, nextAddress
 use Rattle.machine.proofs.Decided.{decided-taken}
 use Rattle.conditions.proofs.Leaves.{stop-number}
 use Rattle.unset.specs.declared.path.Point.{Point}
-use Rattle.unset.specs.Path.{point, selectorAfter, isJump, nexts, Leads}
+use Rattle.unset.specs.Path.{point, selectorAfter, nexts, Leads}
 use Rattle.unset.specs.Theorems.{pointOf}
 use Rattle.unset.proofs.Points.{may-jump}
 

@@ -11,10 +11,10 @@ use Rattle.hexfloat.specs.Answer.{gives}
 use Rattle.orders.specs.declared.order.Operation.{Operation}
 use Rattle.orders.specs.declared.order.Order.{Order}
 use Rattle.orders.specs.declared.order.Verb.{Verb}
-use Rattle.orders.specs.Order.{orderAt, legalOf, isHalt}
+use Rattle.orders.specs.Order.{orderAt, legalOf, isHalt, isSelect, isJump}
 use Rattle.machine.proofs.Rows.{bitFits, legal-passed}
 use Rattle.unset.specs.declared.path.Point.{Point}
-use Rattle.unset.specs.Path.{point, isSelect, selectorAfter, isJump, mayJump, nexts, Leads, Path, begins, goes}
+use Rattle.unset.specs.Path.{point, selectorAfter, mayJump, nexts, Leads, Path, begins, goes}
 use Rattle.unset.specs.Search.{indexOf, pointOf}
 
 -- the point of a place, and the place of a point

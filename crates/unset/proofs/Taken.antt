@@ -8,11 +8,11 @@ use native.Mathlib.Omega.{arith}
 use Rattle.hexfloat.specs.Answer.{gives}
 use Rattle.orders.specs.declared.order.Operation.{Operation}
 use Rattle.orders.specs.declared.order.Order.{Order}
-use Rattle.orders.specs.Order.{orderAt, legalOf, isHalt}
+use Rattle.orders.specs.Order.{orderAt, legalOf, isHalt, isJump}
 use Rattle.machine.specs.Uses.{writtenBy}
 use Rattle.unset.specs.declared.path.Point.{Point}
 use Rattle.unset.specs.Bits.{bitsOf, without}
-use Rattle.unset.specs.Path.{point, selectorAfter, isJump, nexts}
+use Rattle.unset.specs.Path.{point, selectorAfter, nexts}
 use Rattle.unset.specs.Search.{Search, wordAt, reached, reachedAll, Stacked, TakenUp}
 use Rattle.unset.proofs.Arrivals.{reached-one}
 use Rattle.unset.proofs.Points.{may-jump}

@@ -2,13 +2,13 @@
 use Prim.Native.Nat.{ℕ, _+_, _/_, _<_}
 use mathlib.Core.Path.{_≡_}
 use mathlib.Core.List.{List, [], _∷_, List·Memᴰ}
-use mathlib.Core.Bool.{Bool, true, false, cond}
+use mathlib.Core.Bool.{Bool, cond}
 use lib.ListN.{length}
 use Rattle.hexfloat.specs.Answer.{gives}
 use Rattle.orders.specs.declared.order.Operation.{Operation}
 use Rattle.orders.specs.declared.order.Order.{Order}
 use Rattle.orders.specs.declared.order.Verb.{Verb}
-use Rattle.orders.specs.Order.{orderAt, legalOf, isHalt}
+use Rattle.orders.specs.Order.{orderAt, legalOf, isHalt, isJump, isSelect}
 use Rattle.machine.specs.Uses.{Register, readBy, writtenBy}
 use Rattle.unset.specs.declared.path.Point.{Point}
 
@@ -20,47 +20,9 @@ point p s = record { order = p; selector = s }
 abbrev pub start : Point
 start = point 0 0
 
--- SET
-abbrev pub isSelect : Verb → Bool
-isSelect Verb.Load = false
-isSelect Verb.Complement = false
-isSelect Verb.Compare = false
-isSelect Verb.Fix = false
-isSelect Verb.Float = false
-isSelect Verb.Divide = false
-isSelect Verb.Store = false
-isSelect Verb.LoadGeneral = false
-isSelect Verb.StoreGeneral = false
-isSelect Verb.SetMask = false
-isSelect Verb.Jump = false
-isSelect Verb.CountDown = false
-isSelect Verb.Halt = false
-isSelect (Verb.Sum sense) = false
-isSelect Verb.Multiply = false
-isSelect Verb.Select = true
-
 -- SET puts its r2 into the selector; every other order keeps it
 abbrev pub selectorAfter : Verb → Order → ℕ → ℕ
 selectorAfter v o s = cond (isSelect v) (o .r2) s
-
--- JC and JN
-abbrev pub isJump : Verb → Bool
-isJump Verb.Load = false
-isJump Verb.Complement = false
-isJump Verb.Compare = false
-isJump Verb.Fix = false
-isJump Verb.Float = false
-isJump Verb.Divide = false
-isJump Verb.Store = false
-isJump Verb.LoadGeneral = false
-isJump Verb.StoreGeneral = false
-isJump Verb.SetMask = false
-isJump Verb.Jump = true
-isJump Verb.CountDown = true
-isJump Verb.Halt = false
-isJump (Verb.Sum sense) = false
-isJump Verb.Multiply = false
-isJump Verb.Select = false
 
 -- an order after which a path may be at `at`: JC and JN, whatever JC's mask
 unfoldable pub mayJump : Verb → Order → Bool

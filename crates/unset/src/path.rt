@@ -3,7 +3,7 @@ use orders::Order;
 use orders::Verb;
 ghost use mathlib.Core.Path.{_≡_};
 ghost use Prim.Native.Nat.{_≤_, _<_};
-ghost use Rattle.unset.specs.Path.{isSelect, selectorAfter, isJump};
+ghost use Rattle.unset.specs.Path.{selectorAfter};
 ghost use Rattle.unset.specs.Search.{indexOf};
 
 // An order, and the selector with which it is reached.
@@ -20,59 +20,12 @@ pub fn index(x: Point) -> usize
     (x.order * 2 + x.selector) as usize
 }
 
-fn selects(verb: Verb) -> bool
-    ensures { λ r. ⌜ r ≡ isSelect verb ⌝ }
-{
-    match verb {
-        Verb::Load => false,
-        Verb::Complement => false,
-        Verb::Compare => false,
-        Verb::Fix => false,
-        Verb::Float => false,
-        Verb::Divide => false,
-        Verb::Store => false,
-        Verb::LoadGeneral => false,
-        Verb::StoreGeneral => false,
-        Verb::SetMask => false,
-        Verb::Jump => false,
-        Verb::CountDown => false,
-        Verb::Halt => false,
-        Verb::Sum(_) => false,
-        Verb::Multiply => false,
-        Verb::Select => true,
-    }
-}
-
 // SET puts its r2 into the selector; every other order keeps it.
 pub fn selector_after(verb: Verb, o: Order, s: u32) -> u32
     ensures { λ r. ⌜ r ≡ selectorAfter verb o s ⌝ }
 {
-    if selects(verb) {
+    if orders::selects(verb) {
         return o.r2 as u32;
     }
     s
-}
-
-// JC and JN may go to `at` too, whatever JC's mask.
-pub fn jumps(verb: Verb) -> bool
-    ensures { λ r. ⌜ r ≡ isJump verb ⌝ }
-{
-    match verb {
-        Verb::Load => false,
-        Verb::Complement => false,
-        Verb::Compare => false,
-        Verb::Fix => false,
-        Verb::Float => false,
-        Verb::Divide => false,
-        Verb::Store => false,
-        Verb::LoadGeneral => false,
-        Verb::StoreGeneral => false,
-        Verb::SetMask => false,
-        Verb::Jump => true,
-        Verb::CountDown => true,
-        Verb::Halt => false,
-        Verb::Sum(_) => false,
-        Verb::Multiply => false,
-        Verb::Select => false,
-    }
 }

@@ -1,7 +1,6 @@
 // The search: for each order and selector, the registers that some path reaches it without having written.
 use crate::path::Point;
 use crate::path::index;
-use crate::path::jumps;
 use crate::path::selector_after;
 use crate::uses::written;
 use orders::Legality;
@@ -96,7 +95,7 @@ fn take_up(
         selector: selector_after(verb, o, selector),
     };
     let next = reach(unwritten, waiting, stack, top, orders, on, bits);
-    if jumps(verb) {
+    if orders::jumps(verb) {
         let to = Point {
             order: o.at as u32,
             selector,
