@@ -1,5 +1,5 @@
 -- What arrives at a place: its word, and the words of all others.
-use Prim.Native.Nat.{ℕ, _+_, _*_, _/_, _^_, _<_, _≤_}
+use Prim.Native.Nat.{ℕ, _+_, _*_, _^_, _<_, _≤_}
 use mathlib.Core.Path.{_≡_, refl, sym, ap, subst, _∙_}
 use mathlib.Core.List.{List, [], _∷_, List·Memᴰ, List·Memᴰ·head, List·Memᴰ·tail, List·Memᴰ·cases-cons, List·Memᴰ·eq-of-singleton, List·Memᴰ·not-nil}
 use mathlib.Core.Logic.{⊎-elim}
@@ -12,8 +12,9 @@ use native.Mathlib.Omega.{arith}
 use borrow.Author.Tests.{eqb-true, eqb-false, ltb-true, ltb-false}
 use Rattle.unset.specs.declared.path.Point.{Point}
 use Rattle.unset.specs.Bits.{inWord}
-use Rattle.unset.specs.Search.{Search, searchOf, wordAt, waits, pushed, arrived, reached, reachedAll, indexOf, places, Stacked}
-use Rattle.unset.proofs.Stack.{stacked-arrived, left, left-arrived}
+use Rattle.unset.specs.Search.{Search, searchOf, wordAt, waits, pushed, arrived, reached, reachedAll, indexOf, Stacked}
+use Rattle.unset.proofs.Gains.{left, left-arrived}
+use Rattle.unset.proofs.Stack.{stacked-arrived}
 use Rattle.unset.proofs.Words.{never-both, in-or}
 
 -- no bit is lost, and a place that does not wait afterwards did not wait before and has what it had

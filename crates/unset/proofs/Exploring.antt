@@ -1,28 +1,27 @@
 -- The search keeps its invariant, and where nothing waits any more it has found what paths reach: no more by the paths that it followed, no less by
 -- induction over any path.
-use Prim.Native.Nat.{ℕ, zero, suc, _+_, _-_, _*_, _/_, _%_, _^_, _<_, _≤_}
+use Prim.Native.Nat.{ℕ, zero, suc, _-_, _*_, _/_, _%_, _<_, _≤_}
 use mathlib.Core.Path.{_≡_, refl, sym, ap, subst, _∙_}
 use mathlib.Core.List.{List, [], _∷_, List·Memᴰ, List·Memᴰ·head, List·Memᴰ·eq-of-singleton}
 use mathlib.Core.Bool.{Bool, true, false, not, _&&_}
 use lib.Dec.{eqb}
-use lib.ListN.{length, getD, set, replicate, length-replicate}
+use lib.ListN.{length, getD, replicate, length-replicate}
 use lib.Seq.{getD-set-other}
 use native.Mathlib.Omega.{arith}
 use borrow.Author.Tests.{eqb-true, eqb-false, not-true}
-use Rattle.hexfloat.specs.Answer.{gives}
 use Rattle.hexfloat.proofs.Answers.{gives-inj, both}
 use Rattle.orders.specs.declared.order.Operation.{Operation}
-use Rattle.orders.specs.Order.{orderAt, legalOf}
+use Rattle.orders.specs.Order.{orderAt}
 use Rattle.machine.specs.Uses.{writtenBy}
 use Rattle.unset.specs.declared.path.Point.{Point}
-use Rattle.unset.specs.Answer.{Checked}
 use Rattle.unset.specs.Bits.{registerOf, inWord, bitsOf, all, without}
-use Rattle.unset.specs.Path.{point, start, nexts, OrderAt, Writes, Leads, Path, begins, goes, Along, ReachedUnwritten}
-use Rattle.unset.specs.Search.{Search, searchOf, wordAt, waits, stacked, reached, reachedAll, popped, indexOf, pointOf, places, trues, Stacked, TakenUp, Zeros, Explored}
+use Rattle.unset.specs.Path.{start, nexts, OrderAt, Writes, Leads, Path, begins, goes, Along, ReachedUnwritten}
+use Rattle.unset.specs.Search.{Search, searchOf, wordAt, waits, stacked, reached, popped, indexOf, pointOf, places, trues, Stacked, TakenUp, Zeros, Explored}
 use Rattle.unset.proofs.Arrivals.{Reached, reached-one, reached-all}
 use Rattle.unset.proofs.Points.{point-back, place-back, next-small, path-small}
 use Rattle.unset.proofs.Registers.{numbered, proper-written}
-use Rattle.unset.proofs.Stack.{left, left-popped, none-waits, stacked-popped}
+use Rattle.unset.proofs.Gains.{left, left-calm, left-popped}
+use Rattle.unset.proofs.Stack.{none-waits, stacked-popped}
 use Rattle.unset.proofs.Words.{never-both, in-without, in-zero, in-all, bits-only, bits-every, bits-small, without-small}
 
 abbrev orders : List ℕ → ℕ
@@ -217,6 +216,11 @@ searching-starts d s few o =
 
     first : (x : Point) → x ≡ start → (k : ℕ) → ReachedUnwritten d (registerOf k) (pointOf (indexOf x))
     first x e k = subst (λ (z : Point). ReachedUnwritten d (registerOf k) (pointOf (indexOf z))) (sym e) (record { path = begins; unwritten = tt })
+
+-- no more places will be taken up than places times registers
+pub few-turns : (d : List ℕ) (s : Search) → orders d ≤ 4096 → Blank s → left (reached (orders d) start all s) ≤ places * 24
+few-turns d s few o =
+    omega (arith, reached-one (orders d) all few (omega arith) start s (omega arith) (blank-stacked (orders d) s o) .less, left-calm s (o .top))
 
 -- ---- nothing waits any more
 

@@ -3,6 +3,7 @@ pub mod Registers
 pub mod Sized
 pub mod Points
 pub mod Stack
+pub mod Gains
 pub mod Arrivals
 pub mod Taken
 pub mod Exploring

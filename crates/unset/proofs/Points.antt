@@ -1,10 +1,9 @@
 -- Points of paths and their places: each point of a deck has one, and the selector along a path is 0 or 1.
-use Prim.Native.Nat.{ℕ, _+_, _*_, _/_, _%_, _<_, _≤_}
-use mathlib.Core.Path.{_≡_, refl, sym, ap, ap₂, subst, _∙_}
+use Prim.Native.Nat.{ℕ, _+_, _*_, _/_, _%_, _≤_}
+use mathlib.Core.Path.{_≡_, refl, sym, ap₂, subst}
 use mathlib.Core.List.{List, [], _∷_, List·Memᴰ, List·Memᴰ·cases-cons, List·Memᴰ·not-nil}
 use mathlib.Core.Logic.{_⊎_, inl, inr}
 use mathlib.Core.Bool.{Bool, true, false, cond}
-use lib.Dec.{leb}
 use native.Mathlib.Omega.{arith}
 use borrow.Author.Tests.{leb-true}
 use Rattle.hexfloat.specs.Answer.{gives}
@@ -14,7 +13,7 @@ use Rattle.orders.specs.declared.order.Verb.{Verb}
 use Rattle.orders.specs.Order.{orderAt, legalOf, isHalt, isSelect, isJump}
 use Rattle.machine.proofs.Rows.{bitFits, legal-passed}
 use Rattle.unset.specs.declared.path.Point.{Point}
-use Rattle.unset.specs.Path.{point, selectorAfter, mayJump, nexts, Leads, Path, begins, goes}
+use Rattle.unset.specs.Path.{point, selectorAfter, mayJump, nexts, Path, begins, goes}
 use Rattle.unset.specs.Search.{indexOf, pointOf}
 
 -- the point of a place, and the place of a point

@@ -3,19 +3,14 @@ use Prim.Native.Nat.{ℕ, zero, suc, _+_, _-_, _*_, _^_, _<_, _≤_}
 use mathlib.Core.Path.{_≡_, refl, sym, ap, _∙_}
 use mathlib.Core.List.{List, [], _∷_}
 use mathlib.Core.Bool.{Bool, true, false, cond}
-use lib.Bits.{bitOr, or-lt, or-add-and, and-le-r}
+use lib.Bits.{bitOr, or-lt}
 use lib.Dec.{eqb}
 use lib.ListN.{length, getD, set, length-set}
 use lib.Seq.{getD-set-same, getD-set-other}
 use native.Mathlib.Decide.{ℕ-discrete}
 use native.Mathlib.Omega.{arith}
-use borrow.Author.Tests.{eqb-false}
-use Rattle.unset.specs.Search.{places, Search, searchOf, wordAt, waits, stacked, pushed, arrived, popped, trues, total, Stacked}
+use Rattle.unset.specs.Search.{places, Search, searchOf, wordAt, waits, stacked, pushed, arrived, popped, trues, Stacked}
 use Rattle.unset.proofs.Words.{never-both}
-
--- what the search still has to do
-unfoldable pub left : Search → ℕ
-left s = 2 * (places * 2 ^ 24 - total (s .unwritten)) + s .top
 
 -- a place that did not wait waits
 one-more : (w : List Bool) (i : ℕ) → i < length w → getD w i false ≡ false → trues (set w i true) ≡ suc (trues w)
@@ -41,19 +36,6 @@ unfolding trues
 at-most [] = omega arith
 at-most (true ∷ w) = omega (arith, at-most w)
 at-most (false ∷ w) = omega (arith, at-most w)
-
--- one word of all is changed
-total-set : (u : List ℕ) (i v : ℕ) → i < length u → total (set u i v) + getD u i 0 ≡ total u + v
-unfolding total
-total-set [] i v h = absurd (omega arith)
-total-set (x ∷ u) zero v h = omega arith
-total-set (x ∷ u) (suc i) v h = omega (arith, total-set u i v (omega arith))
-
--- no word is larger than 24 bits
-total-small : (u : List ℕ) → ((i : ℕ) → getD u i 0 < 2 ^ 24) → total u ≤ length u * 2 ^ 24
-unfolding total
-total-small [] k = omega arith
-total-small (x ∷ u) k = omega (arith, k 0, total-small u (λ i. k (suc i)))
 
 -- an empty stack: no place waits
 pub none-waits : (n : ℕ) (s : Search) → Stacked n s → s .top ≡ 0 → (i : ℕ) → waits s i ≡ false
@@ -137,7 +119,7 @@ stacked-pushed n i s st h few = cases (waits s i) refl
     cases false e = stacked-onto n i s st h few e
 
 -- what that leaves, and how far the stack grows
-pushed-words : (i : ℕ) (s : Search) → pushed i s .unwritten ≡ s .unwritten
+pub pushed-words : (i : ℕ) (s : Search) → pushed i s .unwritten ≡ s .unwritten
 unfolding pushed
 pushed-words i s = cases (waits s i)
   where
@@ -145,7 +127,7 @@ pushed-words i s = cases (waits s i)
     cases true = refl
     cases false = refl
 
-pushed-top : (i : ℕ) (s : Search) → pushed i s .top ≤ s .top + 1
+pub pushed-top : (i : ℕ) (s : Search) → pushed i s .top ≤ s .top + 1
 unfolding pushed
 pushed-top i s = cases (waits s i)
   where
@@ -154,10 +136,10 @@ pushed-top i s = cases (waits s i)
     cases false = omega arith
 
 -- the word of place i gets the registers of b
-abbrev joined : ℕ → ℕ → Search → Search
+abbrev pub joined : ℕ → ℕ → Search → Search
 joined i b s = searchOf (set (s .unwritten) i (bitOr (wordAt s i) b)) (s .waiting) (s .stack) (s .top)
 
-stacked-joined : (n i b : ℕ) (s : Search) → Stacked n s → i < places → b < 2 ^ 24 → Stacked n (joined i b s)
+pub stacked-joined : (n i b : ℕ) (s : Search) → Stacked n s → i < places → b < 2 ^ 24 → Stacked n (joined i b s)
 stacked-joined n i b s st h k = record {
   words = length-set (s .unwritten) i (bitOr (wordAt s i) b) ∙ st .words;
   flags = st .flags;
@@ -198,32 +180,3 @@ stacked-popped n s st h =
       inside = λ j l. st .inside j (omega arith);
       small = st .small;
     }
-
--- a place is taken from the stack: less is left to do
-pub left-popped : (s : Search) → 0 < s .top → left (popped s) < left s
-unfolding left
-left-popped s h = omega arith
-
--- a word that changes grows
-word-grows : (a b : ℕ) → eqb (bitOr a b) a ≡ false → a < bitOr a b
-word-grows a b e = let q = eqb-false (bitOr a b) a e in omega (arith, or-add-and a b, and-le-r a b)
-
--- registers arrive: no more is left to do, since a place is put on the stack only where its word grows
-pub left-arrived : (n i b : ℕ) (s : Search) → Stacked n s → i < n * 2 → n ≤ 4096 → b < 2 ^ 24 → left (arrived i b s) ≤ left s
-unfolding arrived left
-left-arrived n i b s st h few k = cases (eqb (bitOr (wordAt s i) b) (wordAt s i)) refl
-  where
-    cases : (t : Bool) → eqb (bitOr (wordAt s i) b) (wordAt s i) ≡ t → left (cond t s (pushed i (joined i b s))) ≤ left s
-    cases true e = omega arith
-    cases false e =
-        let v = bitOr (wordAt s i) b in
-        rw (pushed-words i (joined i b s))
-        (omega (
-          arith,
-          pushed-top i (joined i b s),
-          word-grows (wordAt s i) b e,
-          total-set (s .unwritten) i v (omega (arith, st .words)),
-          total-small (set (s .unwritten) i v) (stacked-joined n i b s st (omega arith) k .small),
-          length-set (s .unwritten) i v,
-          st .words,
-        ))

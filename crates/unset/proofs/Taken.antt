@@ -1,6 +1,6 @@
 -- A place is taken up by one arrival or two, as its order goes on or may jump too.
 use Prim.Native.Nat.{ℕ, _+_, _/_, _%_, _≤_}
-use mathlib.Core.Path.{_≡_, refl, ap, _∙_}
+use mathlib.Core.Path.{_≡_, ap, _∙_}
 use mathlib.Core.List.{List}
 use mathlib.Core.Bool.{true, false}
 use lib.ListN.{length}
@@ -10,7 +10,6 @@ use Rattle.orders.specs.declared.order.Operation.{Operation}
 use Rattle.orders.specs.declared.order.Order.{Order}
 use Rattle.orders.specs.Order.{orderAt, legalOf, isHalt, isJump}
 use Rattle.machine.specs.Uses.{writtenBy}
-use Rattle.unset.specs.declared.path.Point.{Point}
 use Rattle.unset.specs.Bits.{bitsOf, without}
 use Rattle.unset.specs.Path.{point, selectorAfter, nexts}
 use Rattle.unset.specs.Search.{Search, wordAt, reached, reachedAll, Stacked, TakenUp}

@@ -4,7 +4,6 @@ use crate::answer::register_of;
 use crate::search::explore;
 use crate::uses::read;
 use orders::Legality;
-ghost use mathlib.Core.Path.{_≡_};
 ghost use Prim.Native.Nat.{_/_, _^_, _<_, _≤_};
 ghost use lib.ListN.{length};
 ghost use Rattle.unset.specs.Answer.{Answers, saysFound};

@@ -1,7 +1,5 @@
 -- `unset::search::arrive` meets its contract: by its two tests.
 -- Assumes nothing.
-use lib.Bits.{bitOr}
-use lib.ListN.{getD}
 use native.Mathlib.Omega.{arith}
 use borrow.Author.Tests.{eq-eqb, ne-eqb}
 use Rattle.unset.specs.Search.{pushed, arrived}

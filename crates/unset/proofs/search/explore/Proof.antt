@@ -1,13 +1,14 @@
 -- `unset::search::explore` meets its contract. The invariant is that of the search; the measure is what is left to do, by the bits still to gain.
 -- Assumes nothing.
-use mathlib.Core.Path.{refl, sym, ap, subst}
+use mathlib.Core.Path.{refl, sym, subst}
 use Prim.Native.Nat.{_-_, _*_, _/_, _<_}
-use lib.ListN.{length, getD}
+use lib.ListN.{length}
 use native.Mathlib.Omega.{arith}
 use Rattle.unset.proofs.Sized.{few-cells, few-orders}
-use Rattle.unset.specs.Search.{searchOf}
+use Rattle.unset.specs.Search.{Search, searchOf, stacked}
 use Rattle.unset.proofs.Exploring.{Searching, Onward, blank, blank-stacked, searching-starts, searching-on, searching-ends}
-use Rattle.unset.proofs.Stack.{left, top-at-most, stacked-popped}
+use Rattle.unset.proofs.Gains.{left}
+use Rattle.unset.proofs.Stack.{top-at-most, stacked-popped}
 use Rattle.unset.proofs.search.explore.Statement.{statement}
 use Rattle.unset.proofs.search.explore.Tie as tie
 
@@ -17,30 +18,44 @@ Inv-loop deck unwritten₀ orders waiting₀ stack₀ top₀ unwritten waiting s
 abbrev μ-loop : tie.MeasureT-loop
 μ-loop deck unwritten₀ orders waiting₀ stack₀ top₀ unwritten waiting stack top = left (searchOf unwritten waiting stack top)
 
+-- where the function begins, and the search, at the head of the loop
+abbrev entry : tie.At-loop Inv-loop μ-loop → tie.Start Inv-loop μ-loop
+entry l = l .before .before .before .before .before .before
+
+abbrev at-head : tie.At-loop Inv-loop μ-loop → Search
+at-head l = searchOf (l .loop .unwritten) (l .loop .waiting) (l .loop .stack) (l .loop .top)
+
 -- the place on top of the stack is of the deck, and has its cell
 place-inside :
-    (c : tie.In-loop Inv-loop μ-loop) →
-    getD (c .before .loop .stack) (c .before .loop .top - 1) 0 < length (c .before .before .before .before .before .before .before .args .deck .now) / 4 * 2
+    (c : tie.In-loop Inv-loop μ-loop) → stacked (at-head (c .before)) (c .before .loop .top - 1) < length (entry (c .before) .args .deck .now) / 4 * 2
 place-inside c = c .before .loop .inv .stack .inside (c .before .loop .top - 1) (omega (arith, c .loop-test .taken))
 
 top-small : (c : tie.In-loop Inv-loop μ-loop) → c .before .loop .top - 1 < 8192
 top-small c = omega (arith, top-at-most _ _ (c .before .loop .inv .stack), c .loop-test .taken)
 
+-- the turn that a call of take_up belongs to
+abbrev turn : tie.After-take-up Inv-loop μ-loop → tie.In-loop Inv-loop μ-loop
+turn c = c .before .before .before .before
+
 -- one place more
 onward :
     (c : tie.After-take-up Inv-loop μ-loop) →
-    Onward (c .before .before .before .before .before .before .before .before .before .before .before .args .deck .now) (searchOf (c .before .before .before .before .before .loop .unwritten) (c .before .before .before .before .before .loop .waiting) (c .before .before .before .before .before .loop .stack) (c .before .before .before .before .before .loop .top))
+    Onward (entry (turn c .before) .args .deck .now) (at-head (turn c .before))
     (searchOf (c .take-up .last .1 .0) (c .take-up .last .1 .1 .0) (c .take-up .last .1 .1 .1 .0) (c .take-up .result))
-onward c = searching-on _ _ _ (c .before .before .before .before .before .loop .inv) (c .before .before .before .before .loop-test .taken) (c .take-up .ensures)
+onward c = searching-on _ _ _ (turn c .before .loop .inv) (turn c .loop-test .taken) (c .take-up .ensures)
 
 cast-orders : tie.Need-cast-orders Inv-loop μ-loop
 cast-orders c = record { fits = omega (arith, few-cells _ (c .before .pre .0 .sized)) }
 
 reach-requires : tie.Need-reach-requires Inv-loop μ-loop
-reach-requires c κs = (blank-stacked _ _ (blank _ 8192 (c .before .before .before .before .pre .1) refl), few-orders _ (c .before .before .before .before .pre .0), omega arith)
+reach-requires c κs =
+    let pre = c .before .before .before .before .pre in
+    (blank-stacked _ _ (blank _ 8192 (pre .1) refl), few-orders _ (pre .0), omega arith)
 
 loop-holds : tie.Need-loop-holds Inv-loop μ-loop
-loop-holds c = subst (Searching _) (sym (c .reach .ensures)) (searching-starts _ _ (few-orders _ (c .before .before .before .before .before .pre .0)) (blank _ 8192 (c .before .before .before .before .before .pre .1) refl))
+loop-holds c =
+    let pre = c .before .before .before .before .before .pre in
+    subst (Searching _) (sym (c .reach .ensures)) (searching-starts _ _ (few-orders _ (pre .0)) (blank _ 8192 (pre .1) refl))
 
 sub-top : tie.Need-sub-top Inv-loop μ-loop
 sub-top c = omega arith
@@ -58,11 +73,9 @@ array-write-waiting : tie.Need-array-write-waiting Inv-loop μ-loop
 array-write-waiting c = omega (arith, place-inside c, c .before .loop .inv .few)
 
 take-up-requires : tie.Need-take-up-requires Inv-loop μ-loop
-take-up-requires c κs = record {
-  checked = c .before .before .before .before .before .before .before .before .before .before .pre .0;
-  stack = stacked-popped _ _ (c .before .before .before .before .loop .inv .stack) (c .before .before .before .loop-test .taken);
-  inside = place-inside (c .before .before .before);
-}
+take-up-requires c κs =
+    let t = c .before .before .before in
+    record { checked = entry (t .before) .pre .0; stack = stacked-popped _ _ (t .before .loop .inv .stack) (t .loop-test .taken); inside = place-inside t }
 
 loop-less : tie.Need-loop-less Inv-loop μ-loop
 loop-less c = onward c .less

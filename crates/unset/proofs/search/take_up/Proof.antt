@@ -1,9 +1,7 @@
 -- `unset::search::take_up` meets its contract: by the callees, since the order is legal; the stack is in order before each arrival.
 -- Assumes nothing.
-use Prim.Native.Nat.{ℕ, _/_, _%_, _<_, _≤_}
-use mathlib.Core.Path.{_≡_, refl, sym, ap, subst, _∙_}
-use mathlib.Core.List.{List}
-use lib.ListN.{length}
+use Prim.Native.Nat.{_/_, _≤_}
+use mathlib.Core.Path.{_≡_, sym, ap, subst, _∙_}
 use native.Mathlib.Omega.{arith}
 use Rattle.hexfloat.specs.Answer.{gives}
 use Rattle.hexfloat.proofs.Answers.{never}
@@ -20,13 +18,27 @@ use borrow.Author.Needs.{needs}
 use Rattle.unset.proofs.search.take_up.Statement.{statement}
 use Rattle.unset.proofs.search.take_up.Tie as tie
 
--- the order at the place, and its operation
+-- where the function begins, and where its order was read, from where the order was found legal
+abbrev entry : tie.After-found → tie.Start
+entry f = f .before .before .before .before .before
+
+abbrev ordered : tie.After-found → tie.After-order-at
+ordered f = f .before .before .before
+
+-- the order's operation
 abbrev op : tie.After-found → Operation
 op f = f .found .given .0 .0
 
-is-legal : (f : tie.After-found) → legalOf (orderAt (f .before .before .before .before .before .args .deck .now) (f .before .before .before .before .before .args .place / 2)) ≡ gives (op f)
-is-legal f =
-    sym (ap legalOf (f .before .before .before .order-at .ensures)) ∙ sym (f .before .before .legal .ensures) ∙ ap saysLegality (f .found .given .1)
+-- by the deck's cells, and by the order that was read
+is-legal : (f : tie.After-found) → legalOf (orderAt (entry f .args .deck .now) (entry f .args .place / 2)) ≡ gives (op f)
+is-legal f = sym (ap legalOf (ordered f .order-at .ensures)) ∙ sym (f .before .before .legal .ensures) ∙ ap saysLegality (f .found .given .1)
+
+read-legal : (f : tie.After-found) → legalOf (ordered f .order-at .result) ≡ gives (op f)
+read-legal f = ap legalOf (ordered f .order-at .ensures) ∙ is-legal f
+
+-- the same from where all that is handed on is known
+abbrev found : tie.After-selector-after → tie.After-found
+found k = k .before .before .before .before .before .before .before
 
 -- the search before the arrivals
 abbrev before : tie.Start → Search
@@ -34,21 +46,22 @@ before a = searchOf (a .args .unwritten .now) (a .args .waiting .now) (a .args .
 
 handing :
     (k : tie.After-selector-after) →
-    Handing (k .before .before .before .before .before .before .before .before .before .before .before .before .args .deck .now) (k .before .before .before .before .before .before .before .before .before .before .before .before .args .place) (before (k .before .before .before .before .before .before .before .before .before .before .before .before))
-    (op (k .before .before .before .before .before .before .before)) (k .before .before .before .before .before .before .before .before .before .before .order-at .result) (k .before .unwritten-of .result) (k .selector-after .result)
-handing k = record {
-  legal = is-legal (k .before .before .before .before .before .before .before);
-  order = k .before .before .before .before .before .before .before .before .before .before .order-at .ensures;
-  goes = sym (k .before .before .before .before .before .halts .ensures) ∙ k .before .before .before .before .if1 .left;
-  bits = k .before .unwritten-of .ensures ∙ ap (without (wordAt (before (k .before .before .before .before .before .before .before .before .before .before .before .before)) (k .before .before .before .before .before .before .before .before .before .before .before .before .args .place))) (k .before .before .written .ensures);
-  selector = k .selector-after .ensures;
-}
+    Handing (entry (found k) .args .deck .now) (entry (found k) .args .place) (before (entry (found k))) (op (found k)) (ordered (found k) .order-at .result)
+    (k .before .unwritten-of .result) (k .selector-after .result)
+handing k =
+    let a = entry (found k) in
+    record {
+      legal = is-legal (found k);
+      order = ordered (found k) .order-at .ensures;
+      goes = sym (k .before .before .before .before .before .halts .ensures) ∙ k .before .before .before .before .if1 .left;
+      bits = k .before .unwritten-of .ensures ∙ ap (without (wordAt (before a) (a .args .place))) (k .before .before .written .ensures);
+      selector = k .selector-after .ensures;
+    }
 
--- the order that was found legal is the deck's
 on-small : (k : tie.After-selector-after) → k .selector-after .result ≤ 1
 on-small k =
-    let f = k .before .before .before .before .before .before .before in
-    rw (k .selector-after .ensures) (after-small (f .before .before .before .order-at .result) (op f) _ (ap legalOf (f .before .before .before .order-at .ensures) ∙ is-legal f) (omega arith))
+    let f = found k in
+    rw (k .selector-after .ensures) (after-small (ordered f .order-at .result) (op f) _ (read-legal f) (omega arith))
 
 cast-orders : tie.Need-cast-orders
 cast-orders c = record { fits = omega (arith, few-cells _ (c .before .pre .checked .sized)) }
@@ -95,8 +108,7 @@ element-copy-out-unwritten-of c = omega (arith, few-orders _ (c .before .before 
 
 written-requires : tie.Need-written-requires
 written-requires c κs =
-    let f = c .before .before .before .before in
-    numbered (f .before .before .before .order-at .result) (op f) _ (ap legalOf (f .before .before .before .order-at .ensures) ∙ is-legal f) (omega arith)
+    numbered (ordered (c .before .before .before .before) .order-at .result) (op (c .before .before .before .before)) _ (read-legal (c .before .before .before .before)) (omega arith)
 
 unwritten-of-requires : tie.Need-unwritten-of-requires
 unwritten-of-requires c κs = search needs
@@ -119,20 +131,20 @@ cast-t30 c = search needs
 reach-requires-2 : tie.Need-reach-requires-2
 reach-requires-2 c κs =
     let k = c .before .before .before .before .before .before .before .before .before .before in
-    let a = k .before .before .before .before .before .before .before .before .before .before .before .before in
+    let a = entry (found k) in
     let few = few-orders (a .args .deck .now) (a .pre .checked) in
     (subst (Stacked _) (sym (c .before .before .before .before .before .before .reach .ensures)) (on-stacked _ _ _ _ _ _ _ (handing k) (a .pre .stack) few (on-small k)), few, omega arith)
 
 returns-3 : tie.Need-returns-3
 returns-3 c =
     let k = c .before .before .before .before .before .before .before .before .before .before .before in
-    subst (TakenUp _ _ (before (k .before .before .before .before .before .before .before .before .before .before .before .before))) (sym (c .reach2 .ensures ∙ ap (reached _ _ _) (c .before .before .before .before .before .before .before .reach .ensures)))
+    subst (TakenUp _ _ (before (entry (found k)))) (sym (c .reach2 .ensures ∙ ap (reached _ _ _) (c .before .before .before .before .before .before .before .reach .ensures)))
     (taken-either _ _ _ _ _ _ _ (handing k) (sym (c .before .before .before .before .before .before .jumps .ensures) ∙ c .before .before .before .before .before .if2 .taken))
 
 returns-4 : tie.Need-returns-4
 returns-4 c =
     let k = c .before .before .before .before .before .before in
-    subst (TakenUp _ _ (before (k .before .before .before .before .before .before .before .before .before .before .before .before))) (sym (c .before .before .reach .ensures))
+    subst (TakenUp _ _ (before (entry (found k)))) (sym (c .before .before .reach .ensures))
     (taken-on _ _ _ _ _ _ _ (handing k) (sym (c .before .jumps .ensures) ∙ c .if2 .left))
 
 pub take-up-spec : {M : Type 1} → statement M
