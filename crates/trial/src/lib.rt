@@ -1,9 +1,10 @@
-// What most of the gate's programs share: input by lines and numbers, a call by its byte, and lines of
-// output.
+// What most of the gate's programs share: input by lines and numbers, cases that have a text, a call by its
+// byte, and lines of output.
 //
 // What a program writes is held to outside vectors, so the contracts here speak of the calls alone; of
 // the text it is proved that it is made safely.
 mod calling;
+mod case;
 mod input;
 mod line;
 
@@ -11,6 +12,12 @@ pub use calling::Layout;
 pub use calling::Listed;
 pub use calling::call;
 pub use calling::list;
+pub use case::Case;
+pub use case::Head;
+pub use case::Text;
+pub use case::next_case;
+pub use case::next_text;
+pub use case::text_of;
 pub use input::Input;
 pub use input::Number;
 pub use input::case_begins;

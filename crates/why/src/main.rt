@@ -7,13 +7,9 @@ use cause::Cause;
 use cause::Cell;
 use cause::Named;
 use decktext::Reading;
-use trial::Input;
+use trial::Case;
+use trial::Head;
 use trial::Line;
-use trial::Number;
-
-fn complain() -> bool {
-    trial::complain(b"why")
-}
 
 fn with_cell(t: Line, cell: Cell) -> Line {
     match cell {
@@ -49,16 +45,9 @@ fn line_of(c: Cause) -> Line {
     trial::ended(with_named(t, named))
 }
 
-// What is done with a deck before the tool is asked.
-struct Task {
-    steps: u32,
-    place: u32,
-    value: u32,
-}
-
 // The steps, the change and the question, on the deck of `count` orders.
 fn ask(
-    task: Task,
+    head: Head,
     cells: &mut [u16],
     count: u32,
     memory: &mut [u16],
@@ -70,70 +59,33 @@ fn ask(
         return false;
     }
     let deck = &mut cells[..n];
-    let ran = machine::run(machine::fresh(), deck, memory, protect, journal, task.steps);
-    trial::change(deck, task.place, task.value);
+    let steps = head.amount;
+    let ran = machine::run(machine::fresh(), deck, memory, protect, journal, steps);
+    trial::change(deck, head.place, head.value);
     let state = ran.state;
     trial::write(line_of(cause::why(state, deck, memory, protect, journal)))
 }
 
 // On the desk's buffers.
-fn run_case(text: &[u8], task: Task) -> bool {
+fn run_case(text: &[u8], head: Head) -> bool {
     let mut cells = [0u16; 16384];
     let mut memory = [0u16; 4096];
     let mut protect = [0u8; 512];
     let mut journal = [0u32; 4096];
     let reading = decktext::read(text, &mut cells, &mut memory, &mut protect);
     let Reading::Taken(count) = reading else {
-        return complain();
+        return trial::complain(b"why");
     };
-    ask(task, &mut cells, count, &mut memory, &protect, &mut journal)
-}
-
-// Reads the text of n bytes, and runs it.
-fn read_and_run(n: usize, text: &mut [u8], task: Task) -> bool {
-    if text.len() < n {
-        return complain();
-    }
-    let t = &mut text[..n];
-    let Input::Whole = trial::read_bytes(t) else {
-        return complain();
-    };
-    run_case(t, task)
-}
-
-// The four numbers of a case's first line, and its text.
-fn numbered_case(head: &[u8]) -> bool {
-    let Number::Value(n) = trial::number_at(10, head, 0, 5) else {
-        return complain();
-    };
-    let Number::Value(steps) = trial::number_at(10, head, 6, 5) else {
-        return complain();
-    };
-    let Number::Value(place) = trial::number_at(10, head, 12, 5) else {
-        return complain();
-    };
-    let Number::Value(value) = trial::number_at(10, head, 18, 5) else {
-        return complain();
-    };
-    let mut text = [0u8; 100000];
-    read_and_run(
-        n as usize,
-        &mut text,
-        Task {
-            steps,
-            place,
-            value,
-        },
-    )
+    ask(head, &mut cells, count, &mut memory, &protect, &mut journal)
 }
 
 // One case, and whether to go on.
 fn one_case() -> bool {
-    let mut head = [0u8; 23];
-    if !trial::case_begins(b"why", &mut head) {
+    let mut space = [0u8; 100000];
+    let Case::Read(head) = trial::next_case(b"why", &mut space) else {
         return false;
-    }
-    numbered_case(&head)
+    };
+    run_case(trial::text_of(&space, head.length), head)
 }
 
 // A proved loop has to end: the turns count down from a number that no run uses up.
