@@ -18,6 +18,7 @@ use Rattle.orders.specs.declared.order.Verb.{Verb}
 use Rattle.orders.specs.Address.{indexOf, addressOf}
 use Rattle.orders.specs.General.{generalAt}
 use Rattle.orders.specs.Order.{legalOf, spanAs, spanOf, storedAs, storedOf, isHalt, orderAt}
+use Rattle.orders.specs.Role.{roleRead}
 use Rattle.protection.specs.Form.{ProtectList}
 use Rattle.machine.specs.declared.state.Registers.{Registers}
 use Rattle.machine.specs.declared.state.Status.{Status}
@@ -29,7 +30,7 @@ use Rattle.machine.specs.Effect.{performed, effectOf}
 use Rattle.machine.specs.Machine.{Machine, registers, committed}
 use Rattle.machine.specs.Operand.{floatOperand, storageOperand, secondOperand, addressIn}
 use Rattle.machine.specs.Step.{Outcome, outcome, onward, nextOrder, verdictOf, stepped}
-use Rattle.machine.specs.Uses.{Register, float, general, contents, floats, indexRead, secondRead, firstRead, readBy}
+use Rattle.machine.specs.Uses.{Register, float, general, contents, floats, indexRead, secondRead, named, readBy}
 use Rattle.machine.proofs.Placed.{some}
 use Rattle.machine.proofs.Rows.{legal-passed}
 use Rattle.conditions.specs.Theorems.{AlikeRead, AlikeAfter}
@@ -106,9 +107,9 @@ module _ (s : Status) (f n f′ n′ : List ℕ) where
 
     -- besides its second operand an order looks at the first, where it is said to read it, and at where S is, where it stores
     performed-same :
-        (v : Verb) (w : Width) (b : Words) → Same (firstRead v w o selected) → ((storedAs v w ≡ 0 → ⊥) → a ≡ a′) →
+        (v : Verb) (w : Width) (b : Words) → Same (named (roleRead v) w (o .r1) selected) → ((storedAs v w ≡ 0 → ⊥) → a ≡ a′) →
         performed v w o one a b ≡ performed v w o other a′ b
-    unfolding performed firstRead
+    unfolding performed named
     performed-same Verb.Load w b k at = refl
     performed-same Verb.Complement w b k at = refl
     performed-same Verb.Compare w b k at = rw (float-same w (o .r1) k)
@@ -135,8 +136,8 @@ module _ (s : Status) (f n f′ n′ : List ℕ) where
         let v = op .verb in
         let w = op .width in
         let q = op .place in
-        let first : Same (firstRead v w o selected) = λ r i. k r (Memᴰ·append-left (secondRead q w o selected) i) in
-        let second : Same (secondRead q w o selected) = λ r i. k r (Memᴰ·append-right (firstRead v w o selected) i) in
+        let first : Same (named (roleRead v) w (o .r1) selected) = λ r i. k r (Memᴰ·append-left (secondRead q w o selected) i) in
+        let second : Same (secondRead q w o selected) = λ r i. k r (Memᴰ·append-right (named (roleRead v) w (o .r1) selected) i) in
         let spanned : (spanOf op ≡ 0 → ⊥) → a ≡ a′ = span-same q w second in
         let stored : (storedOf op ≡ 0 → ⊥) → a ≡ a′ = λ z. spanned (λ y. z (omega (arith, legal-passed o op legal .stored))) in
         rw (

@@ -22,6 +22,7 @@ use Rattle.orders.specs.declared.order.Verb.{Verb}
 use Rattle.orders.specs.General.{generalCell, generalAt}
 use Rattle.orders.specs.Order.{legalOf}
 use Rattle.orders.proofs.Generals.{register-there}
+use Rattle.orders.specs.Role.{roleWritten}
 use Rattle.protection.specs.Form.{ProtectList}
 use Rattle.machine.specs.declared.change.Change.{Change}
 use Rattle.machine.specs.declared.state.Registers.{Registers}
@@ -33,7 +34,7 @@ use Rattle.machine.specs.Jump.{jumped, countedDown}
 use Rattle.machine.specs.Machine.{Machine, committed}
 use Rattle.machine.specs.Operand.{floatAt, floatOperand, secondOperand}
 use Rattle.machine.specs.Step.{outcome, onward, nextOrder, nextAddress, verdictOf, stepped}
-use Rattle.machine.specs.Uses.{Register, float, general, contents, floats, writtenAs, writtenBy}
+use Rattle.machine.specs.Uses.{Register, float, general, contents, floats, named, writtenBy}
 use Rattle.machine.proofs.Decided.{Taken, decided-taken}
 use Rattle.conditions.specs.Theorems.{TypedRegisters, NextWrites}
 use Rattle.conditions.proofs.Sets.{other-general}
@@ -78,8 +79,8 @@ module _ (o : Order) (g : Registers) (e : Effect) where
   as-result sets u r h = as-mapped (resultInto sets u (g .status) (o .r1)) r (floats u (o .r1)) (float-touched u selected (o .r1)) h
 
   -- every verb overwrites just what the table says that it writes
-  performed-touched : (v : Verb) (w : Width) (a : ℕ) (b : Words) → performed v w o g a b ≡ gives e → touched e ≡ writtenAs v w o selected
-  unfolding performed jumped countedDown writtenAs
+  performed-touched : (v : Verb) (w : Width) (a : ℕ) (b : Words) → performed v w o g a b ≡ gives e → touched e ≡ named (roleWritten v) w (o .r1) selected
+  unfolding performed jumped countedDown named
   performed-touched Verb.Load w a b h = as-given h ∙ float-touched w selected (o .r1) _
   performed-touched Verb.Complement w a b h = as-given h ∙ float-touched w selected (o .r1) _
   performed-touched Verb.Compare w a b h = as-given h

@@ -1,11 +1,12 @@
-// The orders of the desk: document 01's table, check 5, general registers, and the address of the storage
-// operand.
+// The orders of the desk: document 01's table, check 5, what an order reads and writes, general registers,
+// and the address of the storage operand.
 //
 // What is public takes an order of any content and has no `requires`.
 mod addressing;
 mod deck;
 mod general;
 mod order;
+mod role;
 
 pub use addressing::address;
 pub use deck::order_at;
@@ -23,3 +24,6 @@ pub use order::look_up;
 pub use order::selects;
 pub use order::span;
 pub use order::stored;
+pub use role::Role;
+pub use role::role_read;
+pub use role::role_written;

@@ -88,7 +88,7 @@ proper-unset d p t r =
     let o = orderAt d p in
     let s = r .selector in
     let ok = proper-read op o s (numbered o op s (r .reads .here .legal) (path-small d (r .reached .path))) in
-    ⊎-elim (proper-in _ t (ok .0)) (proper-in _ t (ok .1)) (List·Memᴰ·append-cases (firstRead (op .verb) (op .width) o s) (r .reads .reads))
+    ⊎-elim (proper-in _ t (ok .0)) (proper-in _ t (ok .1)) (List·Memᴰ·append-cases (firstRead op o s) (r .reads .reads))
 
 -- ---- the bits of the word
 
@@ -98,7 +98,7 @@ read-only :
     List·Memᴰ (registerOf k) (readBy op o s)
 read-only op o s k h l e =
     let ok = proper-read op o s (numbered o op s h l) in
-    let first = firstRead (op .verb) (op .width) o s in
+    let first = firstRead op o s in
     let second = secondRead (op .place) (op .width) o s in
     ⊎-elim (λ (f : inWord k (bitsOf first) ≡ true). Memᴰ·append-left second (bits-only k first (ok .0) f))
     (λ (f : inWord k (bitsOf second) ≡ true). Memᴰ·append-right first (bits-only k second (ok .1) f))
@@ -107,7 +107,7 @@ read-only op o s k h l e =
 read-every :
     (op : Operation) (o : Order) (s k : ℕ) → k < 24 → List·Memᴰ (registerOf k) (readBy op o s) → inWord k (readBits op o s) ≡ true
 read-every op o s k l m =
-    let first = firstRead (op .verb) (op .width) o s in
+    let first = firstRead op o s in
     let second = secondRead (op .place) (op .width) o s in
     in-or k (bitsOf first) (bitsOf second)
     ∙ ⊎-elim (λ (n : List·Memᴰ (registerOf k) first). rw (bits-every k first l n))

@@ -9,10 +9,11 @@ use Rattle.hexfloat.specs.Answer.{gives}
 use Rattle.orders.specs.declared.order.Operation.{Operation}
 use Rattle.orders.specs.declared.order.Order.{Order}
 use Rattle.orders.specs.declared.order.Place.{Place}
-use Rattle.orders.specs.declared.order.Verb.{Verb}
+use Rattle.orders.specs.declared.role.Role.{Role}
 use Rattle.orders.specs.Order.{legalOf}
+use Rattle.orders.specs.Role.{roleRead, roleWritten}
 use Rattle.machine.specs.Effect.{productWidth}
-use Rattle.machine.specs.Uses.{floats, indexRead, firstRead, secondRead, writtenAs, writtenBy}
+use Rattle.machine.specs.Uses.{floats, indexRead, secondRead, named, firstRead, writtenBy}
 use Rattle.machine.proofs.Rows.{legal-passed}
 use Rattle.unset.specs.Uses.{Numbered}
 use Rattle.unset.proofs.Words.{AllProper}
@@ -36,25 +37,14 @@ proper-index s r l m = cases (eqb r 0) refl
     cases true e = rw e tt
     cases false e = rw e ((l, m), tt)
 
--- of the first operand
-proper-first : (v : Verb) (w : Width) (o : Order) (s : ℕ) → Numbered o s → AllProper (firstRead v w o s)
-unfolding firstRead
-proper-first Verb.Load w o s n = tt
-proper-first Verb.Complement w o s n = tt
-proper-first Verb.Compare w o s n = proper-floats w (o .r1) (n .r1)
-proper-first Verb.Fix w o s n = tt
-proper-first Verb.Float w o s n = tt
-proper-first Verb.Divide w o s n = proper-floats w (o .r1) (n .r1)
-proper-first Verb.Store w o s n = proper-floats w (o .r1) (n .r1)
-proper-first Verb.LoadGeneral w o s n = tt
-proper-first Verb.StoreGeneral w o s n = ((n .selector, n .r1), tt)
-proper-first Verb.SetMask w o s n = tt
-proper-first Verb.Jump w o s n = tt
-proper-first Verb.CountDown w o s n = ((n .selector, n .r1), tt)
-proper-first Verb.Halt w o s n = tt
-proper-first (Verb.Sum sense) w o s n = proper-floats w (o .r1) (n .r1)
-proper-first Verb.Multiply w o s n = proper-floats w (o .r1) (n .r1)
-proper-first Verb.Select w o s n = tt
+-- what r1 names by its role
+proper-named : (role : Role) (w : Width) (r s : ℕ) → r ≤ 7 → s ≤ 1 → AllProper (named role w r s)
+unfolding named
+proper-named Role.Nothing w r s l m = tt
+proper-named Role.Operand w r s l m = proper-floats w r l
+proper-named Role.Product w r s l m = proper-floats (productWidth w r) r l
+proper-named Role.Float w r s l m = (l, tt)
+proper-named Role.General w r s l m = ((m, l), tt)
 
 -- of the second
 proper-second : (p : Place) (w : Width) (o : Order) (s : ℕ) → Numbered o s → AllProper (secondRead p w o s)
@@ -64,29 +54,9 @@ proper-second Place.FloatRegister w o s n = proper-floats w (o .r2) (n .r2)
 proper-second Place.GeneralRegister w o s n = ((n .selector, n .r2), tt)
 proper-second Place.Storage w o s n = proper-index s (o .r2) (n .selector) (n .r2)
 
-pub proper-read :
-    (op : Operation) (o : Order) (s : ℕ) → Numbered o s →
-    AllProper (firstRead (op .verb) (op .width) o s) × AllProper (secondRead (op .place) (op .width) o s)
-proper-read op o s n = (proper-first (op .verb) (op .width) o s n, proper-second (op .place) (op .width) o s n)
-
-proper-as : (v : Verb) (w : Width) (o : Order) (s : ℕ) → Numbered o s → AllProper (writtenAs v w o s)
-unfolding writtenAs
-proper-as Verb.Load w o s n = proper-floats w (o .r1) (n .r1)
-proper-as Verb.Complement w o s n = proper-floats w (o .r1) (n .r1)
-proper-as Verb.Compare w o s n = tt
-proper-as Verb.Fix w o s n = ((n .selector, n .r1), tt)
-proper-as Verb.Float w o s n = (n .r1, tt)
-proper-as Verb.Divide w o s n = proper-floats w (o .r1) (n .r1)
-proper-as Verb.Store w o s n = tt
-proper-as Verb.LoadGeneral w o s n = ((n .selector, n .r1), tt)
-proper-as Verb.StoreGeneral w o s n = tt
-proper-as Verb.SetMask w o s n = tt
-proper-as Verb.Jump w o s n = tt
-proper-as Verb.CountDown w o s n = ((n .selector, n .r1), tt)
-proper-as Verb.Halt w o s n = tt
-proper-as (Verb.Sum sense) w o s n = proper-floats w (o .r1) (n .r1)
-proper-as Verb.Multiply w o s n = proper-floats (productWidth w (o .r1)) (o .r1) (n .r1)
-proper-as Verb.Select w o s n = tt
+-- what an order reads, and what it writes
+pub proper-read : (op : Operation) (o : Order) (s : ℕ) → Numbered o s → AllProper (firstRead op o s) × AllProper (secondRead (op .place) (op .width) o s)
+proper-read op o s n = (proper-named (roleRead (op .verb)) (op .width) (o .r1) s (n .r1) (n .selector), proper-second (op .place) (op .width) o s n)
 
 pub proper-written : (op : Operation) (o : Order) (s : ℕ) → Numbered o s → AllProper (writtenBy op o s)
-proper-written op o s n = proper-as (op .verb) (op .width) o s n
+proper-written op o s n = proper-named (roleWritten (op .verb)) (op .width) (o .r1) s (n .r1) (n .selector)

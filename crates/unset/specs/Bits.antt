@@ -33,4 +33,4 @@ without a w = bitXor (bitOr a w) w
 
 -- the word of what an order reads
 abbrev pub readBits : Operation → Order → ℕ → ℕ
-readBits op o s = bitOr (bitsOf (firstRead (op .verb) (op .width) o s)) (bitsOf (secondRead (op .place) (op .width) o s))
+readBits op o s = bitOr (bitsOf (firstRead op o s)) (bitsOf (secondRead (op .place) (op .width) o s))
