@@ -1,4 +1,5 @@
 // The search: for each order and selector, the registers that some path reaches it without having written.
+// A deck has at most 4,096 orders, and each can be reached with two selectors: 8,192 places.
 use crate::path::Point;
 use crate::path::index;
 use crate::path::selector_after;
