@@ -16,7 +16,7 @@ use Rattle.machine.specs.Uses.{writtenBy}
 use Rattle.unset.specs.declared.path.Point.{Point}
 use Rattle.unset.specs.Bits.{registerOf, inWord, bitsOf, all, without}
 use Rattle.unset.specs.Path.{start, nexts, OrderAt, Writes, Leads, Path, begins, goes, Along, ReachedUnwritten}
-use Rattle.unset.specs.Search.{Search, searchOf, wordAt, waits, stacked, reached, popped, indexOf, pointOf, places, trues, Stacked, TakenUp, Zeros, Explored}
+use Rattle.unset.specs.Search.{Search, searchOf, wordAt, waits, stacked, reached, popped, indexOf, pointAt, places, trues, Stacked, TakenUp, Zeros, Explored}
 use Rattle.unset.proofs.Arrivals.{Reached, reached-one, reached-all}
 use Rattle.unset.proofs.Points.{point-back, place-back, next-small, path-small}
 use Rattle.unset.proofs.Registers.{numbered, proper-written}
@@ -29,12 +29,12 @@ orders d = length d / 4
 
 -- some path reaches place j without having written register k
 abbrev Reach : List ℕ → ℕ → ℕ → Type 0
-Reach d j k = k < 24 → ReachedUnwritten d (registerOf k) (pointOf j)
+Reach d j k = k < 24 → ReachedUnwritten d (registerOf k) (pointAt j)
 
 -- what reaches place j and is not written there reaches every point after it
 abbrev Closed : List ℕ → Search → ℕ → Type 0
 Closed d s j =
-    (y : Point) (k : ℕ) → k < 24 → Leads d (pointOf j) y → y .order < orders d → (Writes d (pointOf j) (registerOf k) → ⊥) →
+    (y : Point) (k : ℕ) → k < 24 → Leads d (pointAt j) y → y .order < orders d → (Writes d (pointAt j) (registerOf k) → ⊥) →
     inWord k (wordAt s j) ≡ true → inWord k (wordAt s (indexOf y)) ≡ true
 
 -- the invariant: what was found is so; all registers reach the start; a place that does not wait has handed on what it has
@@ -54,9 +54,9 @@ module _ (d : List ℕ) (few : orders d ≤ 4096) (i : ℕ) (inside : i < orders
   bits = without (wordAt s i) written
 
   abbrev on : List Point
-  on = nexts (up .operation .verb) (orderAt d (i / 2)) (pointOf i)
+  on = nexts (up .operation .verb) (orderAt d (i / 2)) (pointAt i)
 
-  abbrev here : OrderAt d (pointOf i)
+  abbrev here : OrderAt d (pointAt i)
   here = record { operation = up .operation; inside = omega arith; legal = up .legal }
 
   after : Reached (orders d) on bits s t
@@ -64,30 +64,30 @@ module _ (d : List ℕ) (few : orders d ≤ 4096) (i : ℕ) (inside : i < orders
       let n = numbered (orderAt d (i / 2)) (up .operation) (i % 2) (up .legal) (omega arith) in
       let small = without-small (wordAt s i) written (stack .small i) (bits-small _ (proper-written (up .operation) (orderAt d (i / 2)) (i % 2) n)) in
       subst (Reached (orders d) on bits s) (sym (up .after))
-      (reached-all (orders d) bits few small on s (λ y m. next-small (orderAt d (i / 2)) (up .operation) (pointOf i) y (up .legal) (omega arith) m) stack)
+      (reached-all (orders d) bits few small on s (λ y m. next-small (orderAt d (i / 2)) (up .operation) (pointAt i) y (up .legal) (omega arith) m) stack)
 
   -- the same order, however it is found legal
-  same : (o : OrderAt d (pointOf i)) → o .operation ≡ up .operation
+  same : (o : OrderAt d (pointAt i)) → o .operation ≡ up .operation
   same o = gives-inj (sym (o .legal) ∙ up .legal)
 
   -- what is written there, as bits
-  writes-bit : (k : ℕ) → k < 24 → Writes d (pointOf i) (registerOf k) → inWord k written ≡ true
+  writes-bit : (k : ℕ) → k < 24 → Writes d (pointAt i) (registerOf k) → inWord k written ≡ true
   writes-bit k l w =
       bits-every k (writtenBy (up .operation) (orderAt d (i / 2)) (i % 2)) l
       (subst (λ (op : Operation). List·Memᴰ (registerOf k) (writtenBy op (orderAt d (i / 2)) (i % 2))) (same (w .here)) (w .writes))
 
-  bit-writes : (k : ℕ) → inWord k written ≡ true → Writes d (pointOf i) (registerOf k)
+  bit-writes : (k : ℕ) → inWord k written ≡ true → Writes d (pointAt i) (registerOf k)
   bit-writes k h =
       let n = numbered (orderAt d (i / 2)) (up .operation) (i % 2) (up .legal) (omega arith) in
       record { here = here; writes = bits-only k (writtenBy (up .operation) (orderAt d (i / 2)) (i % 2)) (proper-written (up .operation) (orderAt d (i / 2)) (i % 2) n) h }
 
   -- what is handed on reached place i and is not written there
-  handed : (k : ℕ) → k < 24 → inWord k bits ≡ true → (inWord k (wordAt s i) ≡ true) × (Writes d (pointOf i) (registerOf k) → ⊥)
+  handed : (k : ℕ) → k < 24 → inWord k bits ≡ true → (inWord k (wordAt s i) ≡ true) × (Writes d (pointAt i) (registerOf k) → ⊥)
   handed k l h =
       let q = both (inWord k (wordAt s i)) (not (inWord k written)) (sym (in-without k (wordAt s i) written) ∙ h) in
       (q .0, λ w. never-both (writes-bit k l w) (not-true (inWord k written) (q .1)))
 
-  hands : (k : ℕ) → inWord k (wordAt s i) ≡ true → (Writes d (pointOf i) (registerOf k) → ⊥) → inWord k bits ≡ true
+  hands : (k : ℕ) → inWord k (wordAt s i) ≡ true → (Writes d (pointAt i) (registerOf k) → ⊥) → inWord k bits ≡ true
   hands k h n = in-without k (wordAt s i) written ∙ cases (inWord k written) refl
     where
       cases : (b : Bool) → inWord k written ≡ b → (inWord k (wordAt s i) && not b) ≡ true
@@ -102,7 +102,7 @@ module _ (d : List ℕ) (few : orders d ≤ 4096) (i : ℕ) (inside : i < orders
       new y m l k h few =
           let q = handed k few h in
           let r = before i k (q .0) few in
-          let small = next-small (orderAt d (i / 2)) (up .operation) (pointOf i) y (up .legal) (omega arith) m in
+          let small = next-small (orderAt d (i / 2)) (up .operation) (pointAt i) y (up .legal) (omega arith) m in
           subst (ReachedUnwritten d (registerOf k)) (sym (point-back y small))
           (record { path = goes (r .path) (record { here = here; onward = m }); unwritten = (r .unwritten, q .1) })
 
@@ -111,7 +111,7 @@ module _ (d : List ℕ) (few : orders d ≤ 4096) (i : ℕ) (inside : i < orders
   taken-here w y k l lead inside-y n h =
       let q = after .grown .quiet i w in
       let m : List·Memᴰ y on =
-      subst (λ (op : Operation). List·Memᴰ y (nexts (op .verb) (orderAt d (i / 2)) (pointOf i))) (same (lead .here)) (lead .onward) in
+      subst (λ (op : Operation). List·Memᴰ y (nexts (op .verb) (orderAt d (i / 2)) (pointAt i))) (same (lead .here)) (lead .onward) in
       after .gains y m inside-y k (hands k (ap (inWord k) (sym (q .0)) ∙ h) n)
 
   -- and so have those that had
@@ -214,8 +214,8 @@ searching-starts d s few o =
     nothing : (j k : ℕ) → inWord k (wordAt s j) ≡ true → ⊥
     nothing j k h = never-both h (ap (inWord k) (o .zeros j) ∙ in-zero k)
 
-    first : (x : Point) → x ≡ start → (k : ℕ) → ReachedUnwritten d (registerOf k) (pointOf (indexOf x))
-    first x e k = subst (λ (z : Point). ReachedUnwritten d (registerOf k) (pointOf (indexOf z))) (sym e) (record { path = begins; unwritten = tt })
+    first : (x : Point) → x ≡ start → (k : ℕ) → ReachedUnwritten d (registerOf k) (pointAt (indexOf x))
+    first x e k = subst (λ (z : Point). ReachedUnwritten d (registerOf k) (pointAt (indexOf z))) (sym e) (record { path = begins; unwritten = tt })
 
 -- no more places will be taken up than places times registers
 pub few-turns : (d : List ℕ) (s : Search) → orders d ≤ 4096 → Blank s → left (reached (orders d) start all s) ≤ places * 24

@@ -31,7 +31,7 @@ use Rattle.hexfloat.proofs.Answers.{gives-inj, both}
 use Rattle.unset.specs.Path.{point, ReachedUnwritten}
 use Rattle.unset.specs.Answer.{rank, ReadUnset, LowestUnset}
 use Rattle.unset.specs.Bits.{registerOf, inWord, bitsOf, readBits}
-use Rattle.unset.specs.Search.{pointOf}
+use Rattle.unset.specs.Search.{pointAt}
 use Rattle.unset.specs.Finding.{LowestBit, UnsetBits, Searched}
 use Rattle.unset.proofs.Words.{
   never-both,
@@ -115,8 +115,8 @@ read-every op o s k l m =
     (List·Memᴰ·append-cases first m)
 
 -- the place of an order and a selector
-at-point : (p s i : ℕ) → i ≡ p * 2 + s → s ≤ 1 → pointOf i ≡ point p s
-at-point p s i e l = ap pointOf e ∙ point-back (point p s) l
+at-point : (p s i : ℕ) → i ≡ p * 2 + s → s ≤ 1 → pointAt i ≡ point p s
+at-point p s i e l = ap pointAt e ∙ point-back (point p s) l
 
 -- what the order reads with selector s and what reaches place i unwritten
 abbrev common : {d u : List ℕ} {p w : ℕ} → UnsetBits d u p w → ℕ → ℕ → ℕ
@@ -160,7 +160,7 @@ module _ (d u : List ℕ) (p w : ℕ) (found : Searched d u) (inside : p < lengt
       let l : s ≤ 1 = rw same at (path-small d (r .reached .path)) in
       let alike : r .reads .here .operation ≡ op = gives-inj (sym (r .reads .here .legal) ∙ unset .legal) in
       let member : List·Memᴰ t (readBy op o s) = rw (alike, same) at (r .reads .reads) in
-      let reached : ReachedUnwritten d (registerOf (rank t)) (pointOf i) = rw (of-rank t proper, at-point p s i e l, ← same) (r .reached) in
+      let reached : ReachedUnwritten d (registerOf (rank t)) (pointAt i) = rw (of-rank t proper, at-point p s i e l, ← same) (r .reached) in
       let inPlace : i < length d / 4 * 2 = omega arith in
       in-and (rank t) (readBits op o s) (getD u i 0)
       ∙ rw (

@@ -14,16 +14,16 @@ use Rattle.orders.specs.Order.{orderAt, legalOf, isHalt, isSelect, isJump}
 use Rattle.machine.proofs.Rows.{bitFits, legal-passed}
 use Rattle.unset.specs.declared.path.Point.{Point}
 use Rattle.unset.specs.Path.{point, selectorAfter, mayJump, nexts, Path, begins, goes}
-use Rattle.unset.specs.Search.{indexOf, pointOf}
+use Rattle.unset.specs.Search.{indexOf, pointAt}
 
 -- the point of a place, and the place of a point
-pub point-back : (x : Point) → x .selector ≤ 1 → pointOf (indexOf x) ≡ x
+pub point-back : (x : Point) → x .selector ≤ 1 → pointAt (indexOf x) ≡ x
 point-back x h =
     let order : (x .order * 2 + x .selector) / 2 ≡ x .order = omega arith in
     let selector : (x .order * 2 + x .selector) % 2 ≡ x .selector = omega arith in
     ap₂ point order selector
 
-pub place-back : (i : ℕ) → indexOf (pointOf i) ≡ i
+pub place-back : (i : ℕ) → indexOf (pointAt i) ≡ i
 place-back i = omega arith
 
 -- JC and JN may jump, whatever their cells

@@ -22,8 +22,8 @@ places = 8192
 abbrev pub indexOf : Point → ℕ
 indexOf x = x .order * 2 + x .selector
 
-abbrev pub pointOf : ℕ → Point
-pointOf i = point (i / 2) (i % 2)
+abbrev pub pointAt : ℕ → Point
+pointAt i = point (i / 2) (i % 2)
 
 -- for each place the registers that were found to reach it unwritten, and whether it waits to be taken up; the places that wait, on a stack
 pub record Search : Type 0 where
@@ -99,7 +99,7 @@ pub record TakenUp (d : List ℕ) (i : ℕ) (s t : Search) : Type 0 where
   pub operation : Operation
   pub legal : legalOf (orderAt d (i / 2)) ≡ gives operation
   pub after :
-      t ≡ reachedAll (length d / 4) (nexts (operation .verb) (orderAt d (i / 2)) (pointOf i))
+      t ≡ reachedAll (length d / 4) (nexts (operation .verb) (orderAt d (i / 2)) (pointAt i))
       (without (wordAt s i) (bitsOf (writtenBy operation (orderAt d (i / 2)) (i % 2)))) s
 
 -- a word for each place, all 0
@@ -109,6 +109,6 @@ pub record Zeros (u : List ℕ) : Type 0 where
 
 -- what the search finds: at each point of the deck the registers that some path reaches it without having written
 pub record Explored (d : List ℕ) (u : List ℕ) : Type 0 where
-  pub only : (i k : ℕ) → k < 24 → inWord k (getD u i 0) ≡ true → ReachedUnwritten d (registerOf k) (pointOf i)
+  pub only : (i k : ℕ) → k < 24 → inWord k (getD u i 0) ≡ true → ReachedUnwritten d (registerOf k) (pointAt i)
   pub every :
-      (i k : ℕ) → i < length d / 4 * 2 → k < 24 → ReachedUnwritten d (registerOf k) (pointOf i) → inWord k (getD u i 0) ≡ true
+      (i k : ℕ) → i < length d / 4 * 2 → k < 24 → ReachedUnwritten d (registerOf k) (pointAt i) → inWord k (getD u i 0) ≡ true
