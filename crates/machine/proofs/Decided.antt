@@ -1,6 +1,6 @@
 -- What a step that is taken says of the checks before it and of its effect.
-use Prim.Native.Nat.{ℕ, _/_, _<_}
-use mathlib.Core.Path.{_≡_}
+use Prim.Native.Nat.{ℕ, _/_, _<_, _≤_}
+use mathlib.Core.Path.{_≡_, sym, subst, _∙_}
 use mathlib.Core.List.{List}
 use mathlib.Core.Bool.{not}
 use lib.Dec.{ltb}
@@ -12,35 +12,41 @@ use Rattle.orders.specs.declared.order.Operation.{Operation}
 use Rattle.orders.specs.declared.order.Order.{Order}
 use Rattle.protection.specs.Form.{ProtectList}
 use Rattle.machine.specs.declared.state.Registers.{Registers}
+use Rattle.machine.specs.declared.state.State.{State}
+use Rattle.machine.specs.declared.state.Status.{Status}
 use Rattle.machine.specs.declared.verdict.Effect.{Effect}
 use Rattle.machine.specs.Check.{present, anyProtected}
-use Rattle.machine.specs.Decide.{entryStop, judged, decided}
+use Rattle.machine.specs.Decide.{entryIn, judged, pointerOf, decided}
 use Rattle.machine.specs.Effect.{effectOf}
 use Rattle.machine.specs.Machine.{Committable}
 use Rattle.machine.specs.Operand.{secondOperand, addressIn}
+use Rattle.machine.specs.Seats.{registersOf, otherOf, seated}
 use Rattle.orders.specs.Order.{legalOf, spanOf, storedOf, isHalt, orderAt}
 use Rattle.hexfloat.proofs.Answers.{provided-gives, checked-gives, then-gives}
 use Rattle.machine.proofs.Checks.{Held, held, entered, packable, present-fewer}
 use Rattle.machine.proofs.Effects.{Fine, effect-fine}
 use Rattle.machine.proofs.Rows.{Passed, legal-passed}
+use Rattle.machine.proofs.Seats.{registers-seated, held-own}
 
--- where a step is taken, checks 1 to 3 and 13 pass, its order is legal, and what that order does is the effect, which is fine
-pub record Taken (d : List ℕ) (p : ProtectList) (g : Registers) (used : ℕ) (m : List ℕ) (journal : ℕ) (e : Effect) : Type 0 where
-  pub entry : entryStop (length d) p (g .status) used (length m) journal ≡ 0
-  pub pointer : g .status .pointer < 65536
-  pub room : used < journal / 4
+-- where a step of seat k is taken, checks 20, 1 to 3 and 13 pass, its order is legal, and what that order does is the effect, which is fine
+pub record Taken (d : List ℕ) (p : ProtectList) (k : ℕ) (s : State) (m : List ℕ) (journal : ℕ) (e : Effect) : Type 0 where
+  pub entry : entryIn k (length d) p s (length m) journal ≡ 0
+  pub seat : k ≤ 1
+  pub held : Held p (registersOf k s .status) (otherOf k s .status) (s .used) (length m) journal
+  pub pointer : pointerOf k s < 65536
+  pub room : s .used < journal / 4
   pub operation : Operation
-  pub legal : legalOf (orderAt d (g .status .pointer)) ≡ gives operation
-  pub effect : effectOf operation (orderAt d (g .status .pointer)) g m (addressIn (orderAt d (g .status .pointer)) g) ≡ gives e
-  pub fine : Fine p (length m) (g .status .selector) e
+  pub legal : legalOf (orderAt d (pointerOf k s)) ≡ gives operation
+  pub effect : effectOf operation (orderAt d (pointerOf k s)) (registersOf k s) m (addressIn (orderAt d (pointerOf k s)) (registersOf k s)) ≡ gives e
+  pub fine : Fine p (length m) (registersOf k s .status .selector) e
 
-module _ (d : List ℕ) (p : ProtectList) (g : Registers) (used : ℕ) (m : List ℕ) (journal : ℕ) (e : Effect) where
+module _ (p : ProtectList) (m : List ℕ) (journal : ℕ) (e : Effect) where
   -- the same of an order whose operation is known
   judged-fine :
-      (a : ℕ) (op : Operation) (o : Order) → Passed op o → Held p (g .status) used (length m) journal →
+      (g : Registers) (other : Status) (used : ℕ) (a : ℕ) (op : Operation) (o : Order) → Passed op o → Held p (g .status) other used (length m) journal →
       judged o g used p m a journal op ≡ gives e → (used < journal / 4) × (effectOf op o g m a ≡ gives e) × Fine p (length m) (g .status .selector) e
   unfolding judged effectOf
-  judged-fine a op o w hd h =
+  judged-fine g other used a op o w hd h =
       let k12 = provided-gives (not (isHalt (op .verb))) 12 _ h in
       let k13 = provided-gives (ltb used (journal / 4)) 13 _ (k12 .1) in
       let k6 = provided-gives (present (spanOf op) a (length m)) 6 _ (k13 .1) in
@@ -54,37 +60,57 @@ module _ (d : List ℕ) (p : ProtectList) (g : Registers) (used : ℕ) (m : List
               limit = w .bit;
               there = present-fewer (storedOf op) (spanOf op) a (length m) (w .stored) (k6 .0);
               free = not-true (anyProtected p a (storedOf op)) (k7 .0);
-              condition = hd .condition;
-              mask = hd .mask;
-              selector = hd .selector;
+              condition = hd .own .condition;
+              mask = hd .own .mask;
+              selector = hd .own .selector;
             })
             (k7 .1),
       )
 
-  pub decided-taken : decided d p g used m journal ≡ gives e → Taken d p g used m journal e
+module _ (d : List ℕ) (p : ProtectList) (k : ℕ) (s : State) (m : List ℕ) (journal : ℕ) (e : Effect) where
+  pub decided-taken : decided d p k s m journal ≡ gives e → Taken d p k s m journal e
   unfolding decided
   decided-taken h =
-      let at = g .status .pointer in
-      let k3 = checked-gives (entryStop (length d) p (g .status) used (length m) journal) _ h in
+      let g = registersOf k s in
+      let at = pointerOf k s in
+      let k3 = checked-gives (entryIn k (length d) p s (length m) journal) _ h in
       let k4 = provided-gives (ltb at (length d / 4)) 4 _ (k3 .1) in
-      let q = entered p (g .status) used (length m) journal (length d) (k3 .0) in
+      let q = entered p (s .seat0 .status) (s .seat1 .status) (s .used) (length m) journal k (length d) (k3 .0) in
+      let hd = held p (g .status) (otherOf k s .status) (s .used) (length m) journal (sym (held-own k s p (length m) journal) ∙ q .passes) in
       let o = orderAt d at in
       let below : at < length d / 4 = ltb-true at (length d / 4) (k4 .0) in
       let a = addressIn o g in
-      let t = then-gives (legalOf o) (judged o g used p m a journal) (k4 .1) in
-      let r = judged-fine a (t .0) o (legal-passed o (t .0) (t .1)) (held p (g .status) used (length m) journal (q .1)) (t .2) in
-      record { entry = k3 .0; pointer = omega (arith, q .0 .size); room = r .0; operation = t .0; legal = t .1; effect = r .1; fine = r .2 }
+      let t = then-gives (legalOf o) (judged o g (s .used) p m a journal) (k4 .1) in
+      let r = judged-fine p m journal e g (otherOf k s .status) (s .used) a (t .0) o (legal-passed o (t .0) (t .1)) hd (t .2) in
+      record {
+        entry = k3 .0;
+        seat = q .seat;
+        held = hd;
+        pointer = omega (arith, q .sized .size);
+        room = r .0;
+        operation = t .0;
+        legal = t .1;
+        effect = r .1;
+        fine = r .2;
+      }
 
   -- what the code that writes a step asks
-  pub committable : decided d p g used m journal ≡ gives e → Committable e (g .status) used (length m) journal
+  pub committable : decided d p k s m journal ≡ gives e → Committable k e (registersOf k s .status) (s .used) (length m) journal
   committable h =
       let t = decided-taken h in
-      let checks = held p (g .status) used (length m) journal (entered p (g .status) used (length m) journal (length d) (t .entry) .1) in
       record {
+        seat = t .seat;
         register = t .fine .registers;
         there = t .fine .there;
         room = omega (arith, t .room);
-        count = omega (arith, t .room, checks .journal-size);
-        status = packable (checks .condition) (checks .mask) (checks .selector);
+        count = omega (arith, t .room, t .held .journal-size);
+        status = packable (t .held .own .condition) (t .held .own .mask) (t .held .own .selector);
         selector = t .fine .selector;
       }
+
+-- of a state in parts
+pub committable-seated :
+    (d : List ℕ) (p : ProtectList) (k : ℕ) (g o : Registers) (used : ℕ) (m : List ℕ) (journal : ℕ) (e : Effect) →
+    decided d p k (seated k g o used) m journal ≡ gives e → Committable k e (g .status) used (length m) journal
+committable-seated d p k g o used m journal e h =
+    subst (λ (r : Registers). Committable k e (r .status) used (length m) journal) (registers-seated k g o used) (committable d p k (seated k g o used) m journal e h)

@@ -9,4 +9,5 @@ pub mod Refusals
 pub mod Returning
 pub mod Rows
 pub mod Runs
+pub mod Seats
 pub mod Unindexed

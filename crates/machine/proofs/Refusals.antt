@@ -1,5 +1,5 @@
 -- The numbers of a step's stops: 1 to 13, and so never the 0 of a step taken.
-use Prim.Native.Nat.{ℕ, _+_, _/_, _≤_}
+use Prim.Native.Nat.{ℕ, _+_, _/_, _<_, _≤_}
 use mathlib.Core.Path.{_≡_, refl}
 use mathlib.Core.List.{List, [], _∷_}
 use mathlib.Core.Bool.{true, false, not}
@@ -17,11 +17,13 @@ use Rattle.orders.specs.declared.order.Order.{Order}
 use Rattle.orders.specs.declared.order.Verb.{Verb}
 use Rattle.protection.specs.Form.{ProtectList}
 use Rattle.machine.specs.declared.state.Registers.{Registers}
+use Rattle.machine.specs.declared.state.State.{State}
 use Rattle.machine.specs.declared.verdict.Effect.{Effect}
 use Rattle.machine.specs.Check.{present, anyProtected}
-use Rattle.machine.specs.Decide.{entryStop, judged, decided}
+use Rattle.machine.specs.Decide.{entryIn, judged, pointerOf, decided}
 use Rattle.machine.specs.Effect.{fixedInto, resultInto, productWidth, performed, effectOf}
 use Rattle.machine.specs.Operand.{floatOperand, secondOperand, addressIn}
+use Rattle.machine.specs.Seats.{registersOf}
 use Rattle.orders.specs.Order.{rowAmong, rows, operationOf, withinLimits, legalOf, spanOf, storedOf, isHalt, orderAt}
 use Rattle.hexfloat.proofs.Answers.{StopsBy, provided-by, checked-by, mapped-by, then-by, cond-by, numbered-by}
 use Rattle.machine.proofs.Checks.{entry-number}
@@ -71,29 +73,31 @@ module _ (P : ℕ → Type 0) (five : P 5) where
       then-by P (operationOf (o .code)) (λ op. provided (withinLimits op o) 5 (gives op)) (among-by rows 1 (o .code))
       (λ op. provided-by P (withinLimits op o) 5 _ five tt)
 
-pub record StepNumber (n : ℕ) : Type 0 where
-  pub some : 1 ≤ n
-  pub most : n ≤ 13
+-- a step answers 1 to 13, and 20 where there is no such seat
+module _ (P : ℕ → Type 0) (few : (n : ℕ) → 1 ≤ n → n ≤ 13 → P n) where
+  judged-by : (o : Order) (g : Registers) (used : ℕ) (p : ProtectList) (m : List ℕ) (a journal : ℕ) (op : Operation) → StopsBy P (judged o g used p m a journal op)
+  unfolding judged
+  judged-by o g used p m a journal op =
+      provided-by P (not (isHalt (op .verb))) 12 _ (few 12 (omega arith) (omega arith))
+      (provided-by P (ltb used (journal / 4)) 13 _ (few 13 (omega arith) (omega arith))
+      (provided-by P (present (spanOf op) a (length m)) 6 _ (few 6 (omega arith) (omega arith))
+      (provided-by P (not (anyProtected p a (storedOf op))) 7 _ (few 7 (omega arith) (omega arith))
+      (effect-by P (λ n l u. few n (omega arith) (omega arith)) op o g m a (λ z. few 12 (omega arith) (omega arith))))))
 
-module _ (k : ℕ) (some : 1 ≤ k) (most : k ≤ 13) where
-  number : StepNumber k
-  number = record { some = some; most = most }
+  pub entry-by :
+      (k deck : ℕ) (p : ProtectList) (s : State) (memory journal : ℕ) → (1 < k → P 20) →
+      (entryIn k deck p s memory journal ≡ 0 → ⊥) → P (entryIn k deck p s memory journal)
+  entry-by k deck p s memory journal seat =
+      entry-number p (s .seat0 .status) (s .seat1 .status) (s .used) memory journal (λ n. (n ≡ 0 → ⊥) → P n) k deck (λ z. absurd (z refl))
+      (λ h z. seat h) (λ z. few 1 (omega arith) (omega arith)) (λ z. few 2 (omega arith) (omega arith)) (λ z. few 3 (omega arith) (omega arith))
 
-judged-by : (o : Order) (g : Registers) (used : ℕ) (p : ProtectList) (m : List ℕ) (a journal : ℕ) (op : Operation) → StopsBy StepNumber (judged o g used p m a journal op)
-unfolding judged
-judged-by o g used p m a journal op =
-    provided-by StepNumber (not (isHalt (op .verb))) 12 _ (number 12 (omega arith) (omega arith))
-    (provided-by StepNumber (ltb used (journal / 4)) 13 _ (number 13 (omega arith) (omega arith))
-    (provided-by StepNumber (present (spanOf op) a (length m)) 6 _ (number 6 (omega arith) (omega arith))
-    (provided-by StepNumber (not (anyProtected p a (storedOf op))) 7 _ (number 7 (omega arith) (omega arith))
-    (effect-by StepNumber (λ n l u. number n (omega arith) (omega arith)) op o g m a (λ z. number 12 (omega arith) (omega arith))))))
-
-pub decided-by : (d : List ℕ) (p : ProtectList) (g : Registers) (used : ℕ) (m : List ℕ) (journal : ℕ) → StopsBy StepNumber (decided d p g used m journal)
-unfolding decided
-decided-by d p g used m journal =
-    let o = orderAt d (g .status .pointer) in
-    let a = addressIn o g in
-    let k = entryStop (length d) p (g .status) used (length m) journal in
-    checked-by StepNumber k _ (λ z. record { some = omega arith; most = omega (arith, entry-number p (g .status) used (length m) journal (length d)) })
-    (provided-by StepNumber (ltb (g .status .pointer) (length d / 4)) 4 _ (number 4 (omega arith) (omega arith))
-    (then-by StepNumber (legalOf o) (judged o g used p m a journal) (legal-by StepNumber (number 5 (omega arith) (omega arith)) o) (judged-by o g used p m a journal)))
+  pub decided-by :
+      (d : List ℕ) (p : ProtectList) (k : ℕ) (s : State) (m : List ℕ) (journal : ℕ) → (1 < k → P 20) → StopsBy P (decided d p k s m journal)
+  unfolding decided
+  decided-by d p k s m journal seat =
+      let g = registersOf k s in
+      let o = orderAt d (pointerOf k s) in
+      let a = addressIn o g in
+      checked-by P (entryIn k (length d) p s (length m) journal) _ (entry-by k (length d) p s (length m) journal seat)
+      (provided-by P (ltb (pointerOf k s) (length d / 4)) 4 _ (few 4 (omega arith) (omega arith))
+      (then-by P (legalOf o) (judged o g (s .used) p m a journal) (legal-by P (few 5 (omega arith) (omega arith)) o) (judged-by o g (s .used) p m a journal)))

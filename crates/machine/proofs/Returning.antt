@@ -15,13 +15,13 @@ use Rattle.machine.specs.declared.state.State.{State}
 use Rattle.machine.specs.declared.verdict.Effect.{Effect}
 use Rattle.machine.specs.Back.{allowed, returning}
 use Rattle.machine.specs.Change.{registered, placed, guarded}
-use Rattle.machine.specs.Decide.{heldStop}
+use Rattle.machine.specs.Decide.{heldIn}
 use Rattle.machine.specs.Journal.{fourWords, recordAt, encodedAs, inRegister, changeFrom, effectFrom, decoded}
 use Rattle.machine.specs.Status.{conditionFormed, unpacked}
 use Rattle.hexfloat.proofs.Answers.{gives-inj, never, provided-gives, checked-gives, mapped-gives, then-gives}
 
 pub record Returned (p : ProtectList) (s : State) (memory : ℕ) (journal : ℕ) (e : Effect) : Type 0 where
-  pub held : heldStop p (s .registers .status) (s .used) memory journal ≡ 0
+  pub held : heldIn p s memory journal ≡ 0
   pub used : 1 ≤ s .used
   pub registers : registered (e .change) ≡ true
   pub selector : e .status .selector ≤ 1
@@ -88,10 +88,10 @@ module _ (kind place left right : ℕ) (ch : Change) where
       cases false false false false false true _ _ _ _ _ k i = formed-as (Change.Four place left right) i refl (λ base. rw (eqb-true kind 5 k))
       cases false false false false false false _ _ _ _ _ _ i = never i
 
--- what a record that is read says: its condition code is of the form, no bit above 22 is set, and its status and change
+-- what a record that is read says: its condition code is of the form, no bit above 23 is set, and its status and change
 pub record Decodes (q : Record) (e : Effect) : Type 0 where
   pub condition : conditionFormed (unpacked (q .head) .condition) ≡ true
-  pub head : q .head < 2 ^ 23
+  pub head : q .head < 2 ^ 24
   pub status : unpacked (q .head) ≡ e .status
   pub change : Formed (q .head / 2 ^ 19 % 8) (q .place) (q .left) (q .right) (e .change)
 
@@ -100,11 +100,11 @@ unfolding decoded
 decoded-gives q e h =
     let kind = q .head / 2 ^ 19 % 8 in
     let k = provided-gives (conditionFormed (unpacked (q .head) .condition)) 15 _ h in
-    let l = provided-gives (ltb (q .head) (2 ^ 23)) 15 _ (k .1) in
+    let l = provided-gives (ltb (q .head) (2 ^ 24)) 15 _ (k .1) in
     let m = mapped-gives (effectFrom (unpacked (q .head))) (changeFrom kind (q .place) (q .left) (q .right)) (l .1) in
     record {
       condition = k .0;
-      head = ltb-true (q .head) (2 ^ 23) (l .0);
+      head = ltb-true (q .head) (2 ^ 24) (l .0);
       status = ap (λ (x : Effect). x .status) (m .2);
       change = subst (λ (x : Effect). Formed kind (q .place) (q .left) (q .right) (x .change)) (m .2) (change-formed kind (q .place) (q .left) (q .right) (m .0) (m .1));
     }
@@ -126,7 +126,7 @@ module _ (p : ProtectList) (memory : ℕ) where
   pub returning-gives : (s : State) (j : List ℕ) (e : Effect) → returning p s memory j ≡ gives e → Returned p s memory (length j) e
   unfolding returning
   returning-gives s j e h =
-      let k = checked-gives (heldStop p (s .registers .status) (s .used) memory (length j)) _ h in
+      let k = checked-gives (heldIn p s memory (length j)) _ h in
       let l = provided-gives (not (eqb (s .used) 0)) 14 _ (k .1) in
       let t = then-gives (decoded (recordAt j (s .used - 1))) (λ x. allowed x p memory) (l .1) in
       let q = recordAt j (s .used - 1) in

@@ -21,11 +21,13 @@ use Rattle.orders.proofs.Passing.{legal-row}
 use Rattle.orders.proofs.Unindexed.{legal-unindexed}
 use Rattle.protection.specs.Form.{ProtectList}
 use Rattle.machine.specs.declared.state.Registers.{Registers}
+use Rattle.machine.specs.declared.state.State.{State}
 use Rattle.machine.specs.declared.verdict.Effect.{Effect}
 use Rattle.machine.specs.Check.{present, anyProtected}
-use Rattle.machine.specs.Decide.{entryStop, accessed, judged, judgedAt, decided}
+use Rattle.machine.specs.Decide.{entryIn, accessed, judged, judgedAt, pointerOf, decided}
 use Rattle.machine.specs.Effect.{performed, effectOf}
 use Rattle.machine.specs.Operand.{secondOperand, addressIn}
+use Rattle.machine.specs.Seats.{registersOf}
 use Rattle.machine.specs.Unindexed.{unindexedJudged, unindexedDecided}
 use Rattle.orders.proofs.Addresses.{address-plain}
 use Rattle.machine.proofs.Placed.{some}
@@ -100,11 +102,11 @@ module _ (o : Order) (none : NoIndex o) (g : Registers) (used : ℕ) (p : Protec
       ∙ rw (legal-unindexed o none)
 
 pub decided-unindexed :
-    (d : List ℕ) (p : ProtectList) (g : Registers) (used : ℕ) (m : List ℕ) (journal : ℕ) → (g .status .pointer < length d / 4 → NoIndex (orderAt d (g .status .pointer))) →
-    decided d p g used m journal ≡ unindexedDecided d p g used m journal
+    (d : List ℕ) (p : ProtectList) (k : ℕ) (s : State) (m : List ℕ) (journal : ℕ) → (pointerOf k s < length d / 4 → NoIndex (orderAt d (pointerOf k s))) →
+    decided d p k s m journal ≡ unindexedDecided d p k s m journal
 unfolding decided unindexedDecided
-decided-unindexed d p g used m journal none =
-    let at = g .status .pointer in
+decided-unindexed d p k s m journal none =
+    let at = pointerOf k s in
     let o = orderAt d at in
-    ap (λ (e : Answer Effect). checked (entryStop (length d) p (g .status) used (length m) journal) e)
-    (provided-same (ltb at (length d / 4)) 4 _ _ (λ t. judged-unindexed o (none (ltb-true at (length d / 4) t)) g used p m journal))
+    ap (λ (e : Answer Effect). checked (entryIn k (length d) p s (length m) journal) e)
+    (provided-same (ltb at (length d / 4)) 4 _ _ (λ t. judged-unindexed o (none (ltb-true at (length d / 4) t)) (registersOf k s) (s .used) p m journal))

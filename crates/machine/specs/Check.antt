@@ -14,9 +14,9 @@ deckSized deck = eqb (deck % 4) 0 && leb deck 16384
 unfoldable pub buffersSized : ProtectList → ℕ → ℕ → Bool
 buffersSized p memory journal = leb memory 32768 && (leb journal 16384 && covers p memory)
 
--- 3: condition code, mask and selector are of the form, and no more records in use than the journal has room for
-unfoldable pub stateFormed : Status → ℕ → ℕ → Bool
-stateFormed s used journal = statusFormed s && leb used (journal / 4)
+-- 3: condition code, mask and selector of either seat are of the form, and no more records in use than the journal has room for
+unfoldable pub stateFormed : Status → Status → ℕ → ℕ → Bool
+stateFormed s other used journal = statusFormed s && (statusFormed other && leb used (journal / 4))
 
 -- 6: no part of `span` halfwords from `at` is past memory's end
 unfoldable pub present : ℕ → ℕ → ℕ → Bool

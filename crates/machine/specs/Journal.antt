@@ -1,6 +1,6 @@
--- The journal's records (document 01, 'Journal and back steps'; document 02, Job 8): four words a record. Word 0 is pointer + 2^16 · CC + 2^18 · mask +
--- 2^19 · kind + 2^22 · selector, word 1 the register or address, words 2 and 3 contents, leftmost first; unused words are 0. A general register is of the
--- set that the record's own selector names.
+-- The journal's records (document 01, 'Journal and back steps'; document 02, Jobs 8 and 12): four words a record. Word 0 is pointer + 2^16 · CC +
+-- 2^18 · mask + 2^19 · kind + 2^22 · selector + 2^23 · seat, word 1 the register or address, words 2 and 3 contents, leftmost first; unused words are 0. A
+-- general register is of the set that the record's own selector names, and every register is of the record's seat.
 use Prim.Native.Nat.{ℕ, _+_, _*_, _/_, _%_, _^_, _<_, _≤_}
 use mathlib.Core.Path.{_≡_}
 use mathlib.Core.List.{List}
@@ -35,8 +35,13 @@ encodedAs base (Change.General r w) = fourWords (base + 2 ^ 19 * 3) r w 0
 encodedAs base (Change.Two a w) = fourWords (base + 2 ^ 19 * 4) a w 0
 encodedAs base (Change.Four a hi lo) = fourWords (base + 2 ^ 19 * 5) a hi lo
 
-abbrev pub encoded : Effect → Record
-encoded e = encodedAs (packed (e .status)) (e .change)
+-- the record of a step of seat k
+abbrev pub encoded : ℕ → Effect → Record
+encoded k e = encodedAs (packed (e .status) + 2 ^ 23 * k) (e .change)
+
+-- the seat of a record
+unfoldable pub seatIn : Record → ℕ
+seatIn q = q .head / 2 ^ 23 % 2
 
 -- what the code's answer says: a record that is not of its form is a 15
 abbrev pub saysChange : Decoded → Answer Change
@@ -61,11 +66,11 @@ changeFrom kind place left right =
 abbrev pub effectFrom : Status → Change → Effect
 effectFrom s ch = record { change = ch; status = s }
 
--- condition code 2 breaks the form too, and so does a bit above 22 in word 0
+-- condition code 2 breaks the form too, and so does a bit above 23 in word 0
 unfoldable pub decoded : Record → Answer Effect
 decoded q =
     provided (conditionFormed (unpacked (q .head) .condition)) 15
-    (provided (ltb (q .head) (2 ^ 23)) 15
+    (provided (ltb (q .head) (2 ^ 24)) 15
     (mapped (effectFrom (unpacked (q .head))) (changeFrom (q .head / 2 ^ 19 % 8) (q .place) (q .left) (q .right))))
 
 -- the effects that have a record: condition code 0, 1 or 3, mask and selector 0 or 1, a 16-bit pointer, registers below 8

@@ -1,6 +1,7 @@
 pub mod Stops
 pub mod Says
 pub mod Status
+pub mod Seats
 pub mod Fresh
 pub mod Check
 pub mod Operand

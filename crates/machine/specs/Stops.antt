@@ -1,4 +1,4 @@
--- The paper's number of each way in which a call ends (document 01, 'Causes and their numbers'); a taken step answers 0.
+-- The paper's number of each way in which a call ends (document 01, 'Causes and their numbers'; document 02, Job 12); a taken step answers 0.
 use Prim.Native.Nat.{ℕ}
 use Rattle.machine.specs.declared.stop.Stop.{Stop}
 
@@ -19,3 +19,4 @@ numberOf Stop.Halted = 12
 numberOf Stop.JournalFull = 13
 numberOf Stop.NothingBefore = 14
 numberOf Stop.RecordForm = 15
+numberOf Stop.SeatAbsent = 20

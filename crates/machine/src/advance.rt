@@ -12,6 +12,7 @@ ghost use Rattle.protection.specs.Bits.{bitwise};
 ghost use Rattle.machine.specs.Status.{status};
 ghost use Rattle.machine.specs.Stops.{numberOf};
 ghost use Rattle.machine.specs.Machine.{machineOf};
+ghost use Rattle.machine.specs.Seats.{Beside};
 ghost use Rattle.machine.specs.Step.{outcome};
 ghost use Rattle.machine.specs.Run.{stepsOf};
 
@@ -42,16 +43,18 @@ fn ended(s: Status, used: u32, count: u32, stop: Stop) -> Advanced
     }
 }
 
-// Steps to the limit, which is looked at first, or to a stop. The registers are lent, from here down to
+// A seat's steps to the limit, which is looked at first, or to a stop. The registers are lent, from here down to
 // where a word is read, and changed in place: a copy of an array that was just stored to waits for the
 // store. So the registers are stored to first, before memory and journal.
 pub fn advance(
+    seat: u32,
     float: &mut [u32; 8],
     general: &mut [u32; 16],
     condition: u32,
     mask: u32,
     pointer: u16,
     selector: u16,
+    other: Status,
     first: u32,
     deck: &[u16],
     memory: &mut [u16],
@@ -59,8 +62,8 @@ pub fn advance(
     journal: &mut [u32],
     limit: u32,
 ) -> Advanced
-    ensures { λ r. ⌜ outcome (machineOf (now (float .exit)) (now (general .exit)) (status (r .condition) (r .mask) (r .pointer) (r .selector)) (r .used) (now (memory .exit)) (now (journal .exit))) (r .count) (numberOf (r .stop))
-        ≡ stepsOf (now (deck .entry)) (bitwise (now (protect .entry))) limit (machineOf (now (float .entry)) (now (general .entry)) (status condition mask pointer selector) first (now (memory .entry)) (now (journal .entry))) ⌝ }
+    ensures { λ r. ⌜ Beside other (λ o. outcome (machineOf seat (now (float .exit)) (now (general .exit)) (status (r .condition) (r .mask) (r .pointer) (r .selector)) o (r .used) (now (memory .exit)) (now (journal .exit))) (r .count) (numberOf (r .stop))
+        ≡ stepsOf (now (deck .entry)) (bitwise (now (protect .entry))) seat limit (machineOf seat (now (float .entry)) (now (general .entry)) (status condition mask pointer selector) o first (now (memory .entry)) (now (journal .entry)))) ⌝ }
 {
     let mut now = Status {
         condition,
@@ -72,14 +75,25 @@ pub fn advance(
     let mut count: u32 = 0;
     while count < limit {
         let words = journal.len();
-        let v = decide(float, general, now, used, deck, memory, protect, words);
+        let v = decide(
+            seat,
+            float,
+            general,
+            now,
+            other,
+            used,
+            deck,
+            memory,
+            protect,
+            words,
+        );
         match v {
             Verdict::Refused(stop) => {
                 return ended(now, used, count, stop);
             }
             Verdict::Granted(e) => {
                 let change = e.change;
-                let record = record_of(float, general, now, e, memory);
+                let record = record_of(seat, float, general, now, e, memory);
                 now = e.status;
                 put(change, float, general, now.selector as u32);
                 store(change, memory);

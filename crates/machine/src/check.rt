@@ -61,11 +61,14 @@ fn status_formed(s: Status) -> bool
     s.selector <= 1
 }
 
-// Check 3.
-pub fn state_formed(s: Status, used: u32, journal: usize) -> bool
-    ensures { λ r. ⌜ r ≡ stateFormed s used journal ⌝ }
+// Check 3, of both seats.
+pub fn state_formed(s: Status, other: Status, used: u32, journal: usize) -> bool
+    ensures { λ r. ⌜ r ≡ stateFormed s other used journal ⌝ }
 {
     if !status_formed(s) {
+        return false;
+    }
+    if !status_formed(other) {
         return false;
     }
     used as usize <= journal / 4

@@ -23,37 +23,51 @@ ghost use Rattle.protection.specs.Bits.{bitwise};
 ghost use Rattle.orders.specs.Address.{addressOf};
 ghost use Rattle.machine.specs.Decide.{heldStop, entryStop, judged, decided, Judgeable};
 ghost use Rattle.machine.specs.Machine.{registers};
+ghost use Rattle.machine.specs.Seats.{seated, Beside};
 ghost use Rattle.machine.specs.Stops.{numberOf};
 ghost use Rattle.machine.specs.Says.{says};
 
 // Checks 2 and 3: `Taken` where both pass.
-pub fn held(s: Status, used: u32, protect: &[u8], memory: usize, journal: usize) -> Stop
-    ensures { λ r. ⌜ numberOf r ≡ heldStop (bitwise (now (protect .entry))) s used memory journal ⌝ }
+pub fn held(
+    s: Status,
+    other: Status,
+    used: u32,
+    protect: &[u8],
+    memory: usize,
+    journal: usize,
+) -> Stop
+    ensures { λ r. ⌜ numberOf r ≡ heldStop (bitwise (now (protect .entry))) s other used memory journal ⌝ }
 {
     if !buffers_sized(protect, memory, journal) {
         return Stop::BufferSize;
     }
-    if !state_formed(s, used, journal) {
+    if !state_formed(s, other, used, journal) {
         return Stop::StateForm;
     }
     Stop::Taken
 }
 
-// Checks 1 to 3: `Taken` where all pass.
+// Checks 20 and 1 to 3, of a call that is given a seat: `Taken` where all pass.
 pub fn entry(
+    seat: u32,
     s: Status,
+    other: Status,
     used: u32,
     deck: usize,
     protect: &[u8],
     memory: usize,
     journal: usize,
 ) -> Stop
-    ensures { λ r. ⌜ numberOf r ≡ entryStop deck (bitwise (now (protect .entry))) s used memory journal ⌝ }
+    ensures { λ r. ⌜ numberOf r ≡ entryStop seat deck (bitwise (now (protect .entry))) s other used memory journal ⌝ }
 {
-    if !deck_sized(deck) {
+    let sized = deck_sized(deck);
+    if 1 < seat {
+        return Stop::SeatAbsent;
+    }
+    if !sized {
         return Stop::DeckSize;
     }
-    held(s, used, protect, memory, journal)
+    held(s, other, used, protect, memory, journal)
 }
 
 // Checks 12, 13, 6 and 7 of a legal order, then its effect.
@@ -90,21 +104,32 @@ fn judge(
     effect(op, o, float, general, status, memory, at)
 }
 
-// Every check, or the step's effect.
+// Every check of a seat's step, or its effect. Of the other seat the status is looked at and nothing else.
 pub fn decide(
+    seat: u32,
     float: &[u32; 8],
     general: &[u32; 16],
     status: Status,
+    other: Status,
     used: u32,
     deck: &[u16],
     memory: &[u16],
     protect: &[u8],
     journal: usize,
 ) -> Verdict
-    ensures { λ v. ⌜ says v
-        ≡ decided (now (deck .entry)) (bitwise (now (protect .entry))) (registers (now (float .entry)) (now (general .entry)) status) used (now (memory .entry)) journal ⌝ }
+    ensures { λ v. ⌜ Beside other (λ o. says v
+        ≡ decided (now (deck .entry)) (bitwise (now (protect .entry))) seat (seated seat (registers (now (float .entry)) (now (general .entry)) status) o used) (now (memory .entry)) journal) ⌝ }
 {
-    let k = entry(status, used, deck.len(), protect, memory.len(), journal);
+    let k = entry(
+        seat,
+        status,
+        other,
+        used,
+        deck.len(),
+        protect,
+        memory.len(),
+        journal,
+    );
     if number(k) != 0 {
         return Verdict::Refused(k);
     }

@@ -16,6 +16,7 @@ ghost use Rattle.machine.specs.Journal.{
   written,
   encodedAs,
   encoded,
+  seatIn,
   saysChange,
   inRegister,
   changeFrom,
@@ -69,12 +70,19 @@ fn words(head: u32, place: u32, left: u32, right: u32) -> Record
     }
 }
 
-// Word 0 but for the kind.
+// Word 0 but for the kind and the seat.
 fn pack(s: Status) -> u32
     requires { ⌜ Packable s ⌝ }
     ensures { λ r. ⌜ (r ≡ packed s) × (r < 8388608) ⌝ }
 {
     s.pointer as u32 + 65536 * s.condition + 262144 * s.mask + 4194304 * (s.selector as u32)
+}
+
+// The seat whose step a record is of.
+pub fn seat_in(q: Record) -> u32
+    ensures { λ r. ⌜ r ≡ seatIn q ⌝ }
+{
+    q.head / 8388608 % 2
 }
 
 fn unpack(head: u32) -> Status
@@ -90,7 +98,7 @@ fn unpack(head: u32) -> Status
 
 // The record of a change, `base` being word 0 but for its kind.
 fn encode_change(base: u32, ch: Change) -> Record
-    requires { ⌜ base < 8388608 ⌝ }
+    requires { ⌜ base < 16777216 ⌝ }
     ensures { λ r. ⌜ r ≡ encodedAs base ch ⌝ }
 {
     match ch {
@@ -103,32 +111,33 @@ fn encode_change(base: u32, ch: Change) -> Record
     }
 }
 
-fn encode(e: Effect) -> Record
-    requires { ⌜ Packable (e .status) ⌝ }
-    ensures { λ r. ⌜ r ≡ encoded e ⌝ }
+fn encode(seat: u32, e: Effect) -> Record
+    requires { ⌜ (seat ≤ 1) × Packable (e .status) ⌝ }
+    ensures { λ r. ⌜ r ≡ encoded seat e ⌝ }
 {
     let ch = e.change;
     let status = e.status;
-    encode_change(pack(status), ch)
+    encode_change(pack(status) + 8388608 * seat, ch)
 }
 
-// The record of what an effect overwrites.
+// The record of what an effect on a seat overwrites.
 pub fn record_of(
+    seat: u32,
     float: &[u32; 8],
     general: &[u32; 16],
     status: Status,
     e: Effect,
     memory: &[u16],
 ) -> Record
-    requires { ⌜ (registered (e .change) ≡ true) × (placed (e .change) (length (now memory)) ≡ true) × Packable status ⌝ }
-    ensures { λ q. ⌜ q ≡ encoded (beforeOf (registers (now (float .entry)) (now (general .entry)) status) (now (memory .entry)) e) ⌝ }
+    requires { ⌜ (registered (e .change) ≡ true) × (placed (e .change) (length (now memory)) ≡ true) × (seat ≤ 1) × Packable status ⌝ }
+    ensures { λ q. ⌜ q ≡ encoded seat (beforeOf (registers (now (float .entry)) (now (general .entry)) status) (now (memory .entry)) e) ⌝ }
 {
     let change = e.change;
     let before = Effect {
         change: old(float, general, status, memory, change),
         status,
     };
-    encode(before)
+    encode(seat, before)
 }
 
 // The change of a record, or that its form is broken.
@@ -197,7 +206,7 @@ pub fn decode(q: Record) -> Verdict
     if !condition_formed(status.condition) {
         return Verdict::Refused(Stop::RecordForm);
     }
-    if 8388608 <= q.head {
+    if 16777216 <= q.head {
         return Verdict::Refused(Stop::RecordForm);
     }
     let d = decode_change(q.head / 524288 % 8, q.place, q.left, q.right);

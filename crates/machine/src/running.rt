@@ -4,6 +4,8 @@ use crate::decide::entry;
 use crate::state::State;
 use crate::state::Status;
 use crate::state::assemble;
+use crate::state::other_of;
+use crate::state::registers_of;
 use crate::stop::Stop;
 use crate::stop::number;
 ghost use mathlib.Core.Path.{_≡_};
@@ -19,9 +21,10 @@ pub struct Ran {
     pub stop: Stop,
 }
 
-// Checks 1 to 3, at a limit of 0 too; then steps to the limit or to a stop.
+// Checks 20 and 1 to 3, at a limit of 0 too; then a seat's steps to the limit or to a stop.
 pub fn run(
     s: State,
+    seat: u32,
     deck: &[u16],
     memory: &mut [u16],
     protect: &[u8],
@@ -29,13 +32,24 @@ pub fn run(
     limit: u32,
 ) -> Ran
     ensures { λ r. ⌜ outcome (machine (r .state) (now (memory .exit)) (now (journal .exit))) (r .count) (numberOf (r .stop))
-        ≡ ran (now (deck .entry)) (bitwise (now (protect .entry))) limit (machine s (now (memory .entry)) (now (journal .entry))) ⌝ }
+        ≡ ran (now (deck .entry)) (bitwise (now (protect .entry))) seat limit (machine s (now (memory .entry)) (now (journal .entry))) ⌝ }
 {
-    let registers = s.registers;
-    let start = registers.status;
+    let own = registers_of(s, seat);
+    let other = other_of(s, seat);
+    let start = own.status;
+    let beside = other.status;
     let used = s.used;
     let words = journal.len();
-    let checks = entry(start, used, deck.len(), protect, memory.len(), words);
+    let checks = entry(
+        seat,
+        s.seat0.status,
+        s.seat1.status,
+        used,
+        deck.len(),
+        protect,
+        memory.len(),
+        words,
+    );
     if number(checks) != 0 {
         return Ran {
             state: s,
@@ -43,15 +57,17 @@ pub fn run(
             stop: checks,
         };
     }
-    let mut float = registers.float;
-    let mut general = registers.general;
+    let mut float = own.float;
+    let mut general = own.general;
     let r = advance(
+        seat,
         &mut float,
         &mut general,
         start.condition,
         start.mask,
         start.pointer,
         start.selector,
+        beside,
         used,
         deck,
         memory,
@@ -65,7 +81,7 @@ pub fn run(
         pointer: r.pointer,
         selector: r.selector,
     };
-    let state = assemble(float, general, status, r.used);
+    let state = assemble(seat, float, general, status, other, r.used);
     let count = r.count;
     let stop = r.stop;
     Ran { state, count, stop }

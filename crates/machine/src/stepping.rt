@@ -3,6 +3,8 @@ use crate::advance::advance;
 use crate::state::State;
 use crate::state::Status;
 use crate::state::assemble;
+use crate::state::other_of;
+use crate::state::registers_of;
 use crate::stop::Stop;
 ghost use mathlib.Core.Path.{_≡_};
 ghost use Rattle.protection.specs.Bits.{bitwise};
@@ -15,28 +17,33 @@ pub struct Stepped {
     pub stop: Stop,
 }
 
-// One order, or the stop that the table gives: at most one step.
+// One order of a seat, or the stop that the table gives: at most one step.
 pub fn step(
     s: State,
+    seat: u32,
     deck: &[u16],
     memory: &mut [u16],
     protect: &[u8],
     journal: &mut [u32],
 ) -> Stepped
     ensures { λ r. ⌜ single (machine (r .state) (now (memory .exit)) (now (journal .exit))) (numberOf (r .stop))
-        ≡ stepped (now (deck .entry)) (bitwise (now (protect .entry))) (machine s (now (memory .entry)) (now (journal .entry))) ⌝ }
+        ≡ stepped (now (deck .entry)) (bitwise (now (protect .entry))) seat (machine s (now (memory .entry)) (now (journal .entry))) ⌝ }
 {
-    let registers = s.registers;
-    let start = registers.status;
-    let mut float = registers.float;
-    let mut general = registers.general;
+    let own = registers_of(s, seat);
+    let other = other_of(s, seat);
+    let start = own.status;
+    let beside = other.status;
+    let mut float = own.float;
+    let mut general = own.general;
     let r = advance(
+        seat,
         &mut float,
         &mut general,
         start.condition,
         start.mask,
         start.pointer,
         start.selector,
+        beside,
         s.used,
         deck,
         memory,
@@ -50,7 +57,7 @@ pub fn step(
         pointer: r.pointer,
         selector: r.selector,
     };
-    let state = assemble(float, general, status, r.used);
+    let state = assemble(seat, float, general, status, other, r.used);
     let stop = r.stop;
     Stepped { state, stop }
 }

@@ -20,6 +20,7 @@ pub enum Stop {
     JournalFull,
     NothingBefore,
     RecordForm,
+    SeatAbsent,
 }
 
 pub fn number(s: Stop) -> u8
@@ -42,5 +43,6 @@ pub fn number(s: Stop) -> u8
         Stop::JournalFull => 13,
         Stop::NothingBefore => 14,
         Stop::RecordForm => 15,
+        Stop::SeatAbsent => 20,
     }
 }

@@ -6,8 +6,11 @@ use crate::change::store;
 use crate::decide::held;
 use crate::journal::decode;
 use crate::journal::read_record;
+use crate::journal::seat_in;
 use crate::state::State;
-use crate::stepping::Stepped;
+use crate::state::other_of;
+use crate::state::registers_of;
+use crate::state::seat_down;
 use crate::stop::Stop;
 use crate::stop::number;
 use crate::verdict::Effect;
@@ -17,8 +20,19 @@ ghost use Rattle.protection.specs.Bits.{bitwise};
 ghost use Rattle.machine.specs.Says.{says};
 ghost use Rattle.machine.specs.Stops.{numberOf};
 ghost use Rattle.machine.specs.Machine.{machine};
-ghost use Rattle.machine.specs.Step.{outcome};
-ghost use Rattle.machine.specs.Back.{allowed, returning, backed};
+ghost use Rattle.machine.specs.Back.{allowed, returning, backOutcome, backed};
+
+// Whose step was taken back.
+pub enum Whose {
+    Nobody,
+    Seat(u32),
+}
+
+pub struct Undone {
+    pub state: State,
+    pub stop: Stop,
+    pub whose: Whose,
+}
 
 // Check 15 of an effect that a record gives: its halfwords are there, and none is protected.
 fn allow(e: Effect, protect: &[u8], memory: usize) -> Verdict
@@ -39,7 +53,14 @@ fn allow(e: Effect, protect: &[u8], memory: usize) -> Verdict
 fn recall(s: State, memory: usize, protect: &[u8], journal: &[u32]) -> Verdict
     ensures { λ v. ⌜ says v ≡ returning (bitwise (now (protect .entry))) s memory (now (journal .entry)) ⌝ }
 {
-    let k = held(s.registers.status, s.used, protect, memory, journal.len());
+    let k = held(
+        s.seat0.status,
+        s.seat1.status,
+        s.used,
+        protect,
+        memory,
+        journal.len(),
+    );
     if number(k) != 0 {
         return Verdict::Refused(k);
     }
@@ -54,23 +75,30 @@ fn recall(s: State, memory: usize, protect: &[u8], journal: &[u32]) -> Verdict
     }
 }
 
-// The last step taken back; the journal's words stay.
-pub fn back(s: State, memory: &mut [u16], protect: &[u8], journal: &mut [u32]) -> Stepped
-    ensures { λ r. ⌜ outcome (machine (r .state) (now (memory .exit)) (now (journal .exit))) 0 (numberOf (r .stop))
+// The last step taken back, whichever seat's it was; the journal's words stay.
+pub fn back(s: State, memory: &mut [u16], protect: &[u8], journal: &mut [u32]) -> Undone
+    ensures { λ r. ⌜ backOutcome (machine (r .state) (now (memory .exit)) (now (journal .exit))) (numberOf (r .stop)) (r .whose)
         ≡ backed (bitwise (now (protect .entry))) (machine s (now (memory .entry)) (now (journal .entry))) ⌝ }
 {
     let v = recall(s, memory.len(), protect, journal);
     match v {
-        Verdict::Refused(k) => Stepped { state: s, stop: k },
+        Verdict::Refused(k) => Undone {
+            state: s,
+            stop: k,
+            whose: Whose::Nobody,
+        },
         Verdict::Granted(e) => {
             let change = e.change;
+            let used = s.used - 1;
+            let seat = seat_in(read_record(journal, used));
             store(change, memory);
-            Stepped {
-                state: State {
-                    registers: registers_after(e, s.registers),
-                    used: s.used - 1,
-                },
+            let own = registers_after(e, registers_of(s, seat));
+            let other = other_of(s, seat);
+            let state = seat_down(seat, own, other, used);
+            Undone {
+                state,
                 stop: Stop::Taken,
+                whose: Whose::Seat(seat),
             }
         }
     }

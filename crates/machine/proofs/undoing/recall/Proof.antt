@@ -36,7 +36,7 @@ sub-read-record c = search needs
 read-record-requires : tie.Need-read-record-requires
 read-record-requires c κs =
     let zero = sym (c .before .before .number .ensures) ∙ c .before .if1 .left in
-    let h = held _ _ _ _ _ (sym (c .before .before .before .held .ensures) ∙ zero) in
+    let h = held _ _ _ _ _ _ (sym (c .before .before .before .held .ensures) ∙ zero) in
     omega (arith, h .room, c .if2 .left)
 
 decode-requires : tie.Need-decode-requires
@@ -83,18 +83,4 @@ returns-4 c =
     (c .allow .ensures)
 
 pub recall-spec : {M : Type 1} → statement M
-recall-spec =
-    tie.close
-    (tie.spec
-    held-requires
-    number-requires
-    returns
-    returns-2
-    sub-read-record
-    read-record-requires
-    decode-requires
-    enum-known-v
-    enum-known-v-2
-    allow-requires
-    returns-3
-    returns-4)
+recall-spec = tie.close (tie.spec held-requires number-requires returns returns-2 sub-read-record read-record-requires decode-requires enum-known-v enum-known-v-2 allow-requires returns-3 returns-4)
