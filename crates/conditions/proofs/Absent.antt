@@ -15,7 +15,7 @@ use Rattle.orders.proofs.Passing.{legal-row}
 use Rattle.orders.proofs.Table.{allRows, row-passes}
 use Rattle.protection.specs.Form.{ProtectList}
 use Rattle.machine.specs.Check.{present}
-use Rattle.machine.specs.Decide.{judged, decided}
+use Rattle.machine.specs.Decide.{judged, pointerOf, decided}
 use Rattle.machine.specs.Machine.{Machine}
 use Rattle.machine.specs.Run.{entryOf}
 use Rattle.machine.specs.Step.{outcome, nextOrder, nextAddress, stepped}
@@ -41,20 +41,21 @@ halts Place.GeneralRegister v e h = absurd (let z : _≡_ {A = ℕ} 0 1 = cc in 
 halts Place.Storage v e h = not-true (isHalt v) h
 
 pub absent-above :
-    (d : List ℕ) (p : ProtectList) (x : Machine) (op : Operation) → entryOf d p x ≡ 0 → x .state .registers .status .pointer < length d / 4 → legalOf (nextOrder d x) ≡ gives op →
-    op .place ≡ Place.Storage → x .state .used < length (x .journal) / 4 → 65536 ≤ nextAddress d x → stepped d p x ≡ outcome x 0 6
+    (d : List ℕ) (p : ProtectList) (k : ℕ) (x : Machine) (op : Operation) → entryOf d p k x ≡ 0 → pointerOf k (x .state) < length d / 4 → legalOf (nextOrder d k x) ≡ gives op →
+    op .place ≡ Place.Storage → x .state .used < length (x .journal) / 4 → 65536 ≤ nextAddress d k x → stepped d p k x ≡ outcome x 0 6
 unfolding stepped decided judged present
-absent-above d p x op entry pointer legal storage room above =
-    let s = x .state .registers .status in
-    let o = nextOrder d x in
-    let a = nextAddress d x in
+absent-above d p k x op entry pointer legal storage room above =
+    let s = x .state in
+    let o = nextOrder d k x in
+    let a = nextAddress d k x in
     let n = length (x .memory) in
-    let size = held p s (x .state .used) n (length (x .journal)) (entered p s (x .state .used) n (length (x .journal)) (length d) entry .1) .memory-size in
+    let passes = entered p (s .seat0 .status) (s .seat1 .status) (s .used) n (length (x .journal)) k (length d) entry .passes in
+    let size = held p (s .seat0 .status) (s .seat1 .status) (s .used) n (length (x .journal)) passes .memory-size in
     let wide = some (op .width) in
     let go = row-passes (λ code op. goes (op .place) (op .verb)) rows-go (o .code) op (legal-row o op legal .0) in
     rw (
-      eq-eqb (entryOf d p x) 0 entry,
-      lt-ltb (s .pointer) (length d / 4) pointer,
+      eq-eqb (entryOf d p k x) 0 entry,
+      lt-ltb (pointerOf k s) (length d / 4) pointer,
       legal,
       halts (op .place) (op .verb) storage go,
       lt-ltb (x .state .used) (length (x .journal) / 4) room,

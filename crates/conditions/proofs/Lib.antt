@@ -1,11 +1,14 @@
 pub mod Absent
+pub mod Apart
 pub mod Calls
 pub mod Counted
+pub mod Decisions
 pub mod Entries
 pub mod Keeps
 pub mod Leaves
 pub mod Links
 pub mod Numbers
+pub mod Others
 pub mod Packed
 pub mod Protected
 pub mod Records
@@ -16,6 +19,7 @@ pub mod RoundTrip
 pub mod Same
 pub mod Sets
 pub mod Theorems
+pub mod Touch
 pub mod Trail
 pub mod Unindexed
 pub mod Unread

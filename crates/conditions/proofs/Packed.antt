@@ -32,19 +32,19 @@ module _ (d : List ℕ) (p q : ProtectList) where
   next-alike : (c : Call) (x : Machine) → Over x → Over (called d p c x .after)
   next-alike c x h = subst (λ (n : ℕ). Alike n p q) (sym (call-keeps p length (λ ch m free. memory-length ch m) d c x)) h
 
-  verdict-alike : (x : Machine) → Over x → verdictOf d p x ≡ verdictOf d q x
-  verdict-alike x h = decided-alike d p q (x .state .registers) (x .state .used) (x .memory) (length (x .journal)) h
+  verdict-alike : (k : ℕ) (x : Machine) → Over x → verdictOf d p k x ≡ verdictOf d q k x
+  verdict-alike k x h = decided-alike d p q k (x .state) (x .memory) (length (x .journal)) h
 
-  committed-alike : (e : Effect) (x : Machine) → Over x → Over (committed e x)
-  committed-alike e x h = subst (λ (n : ℕ). Alike n p q) (sym (memory-length (e .change) (x .memory))) h
+  committed-alike : (k : ℕ) (e : Effect) (x : Machine) → Over x → Over (committed k e x)
+  committed-alike k e x h = subst (λ (n : ℕ). Alike n p q) (sym (memory-length (e .change) (x .memory))) h
 
   call-alike : (c : Call) (x : Machine) → Over x → called d p c x ≡ called d q c x
   unfolding called stepped ran backed
-  call-alike step x h = onward-same Over (verdictOf d p) (verdictOf d q) verdict-alike committed-alike x h (λ y. outcome y 0 0) (λ y. outcome y 0 0) (λ y g. refl)
-  call-alike (run n) x h =
+  call-alike (step k) x h = onward-same k Over (verdictOf d p k) (verdictOf d q k) (verdict-alike k) (committed-alike k) x h (λ y. outcome y 0 0) (λ y. outcome y 0 0) (λ y g. refl)
+  call-alike (run k n) x h =
       rw (
-        entry-alike p q (length (x .memory)) h (length d) (x .state .registers .status) (x .state .used) (length (x .journal)),
-        repeated-same Over (verdictOf d p) (verdictOf d q) verdict-alike committed-alike n x h,
+        entry-alike p q (length (x .memory)) h k (length d) (x .state .seat0 .status) (x .state .seat1 .status) (x .state .used) (length (x .journal)),
+        repeated-same k Over (verdictOf d p k) (verdictOf d q k) (verdict-alike k) (committed-alike k) n x h,
       )
   call-alike back x h = rw (returning-alike p q (length (x .memory)) h (x .state) (x .journal))
 

@@ -1,6 +1,6 @@
 -- A record is read back as it was written, and no other is touched.
 use Prim.Native.Nat.{ℕ, _+_, _*_, _/_, _%_, _^_, _<_, _≤_}
-use mathlib.Core.Path.{_≡_, refl, subst, _∙_}
+use mathlib.Core.Path.{_≡_, refl, sym, subst, _∙_}
 use mathlib.Core.List.{List}
 use mathlib.Core.Bool.{true}
 use lib.ListN.{length, getD, set, length-set}
@@ -13,7 +13,7 @@ use Rattle.machine.specs.declared.journal.Record.{Record}
 use Rattle.machine.specs.declared.verdict.Effect.{Effect}
 use Rattle.machine.specs.declared.state.Status.{Status}
 use Rattle.machine.specs.Change.{registered}
-use Rattle.machine.specs.Journal.{fourWords, recordAt, written, encodedAs, encoded, changeFrom, effectFrom, decoded, Recordable}
+use Rattle.machine.specs.Journal.{fourWords, recordAt, written, encodedAs, encoded, changeFrom, effectFrom, decoded, seatIn, Recordable}
 use Rattle.machine.specs.Status.{conditionFormed, packed, unpacked}
 use Rattle.machine.proofs.Checks.{condition-below}
 use Rattle.machine.proofs.Returning.{decoded-gives}
@@ -68,9 +68,9 @@ pub record-agrees : (j l : List ℕ) (k : ℕ) → ((i : ℕ) → i < k * 4 + 4 
 record-agrees j l k h = rw (h (k * 4) (omega arith), h (k * 4 + 1) (omega arith), h (k * 4 + 2) (omega arith), h (k * 4 + 3) (omega arith))
 
 -- the parts of word 0
-module _ (s : Status) (kind : ℕ) where
+module _ (s : Status) (seat kind : ℕ) where
   abbrev word : ℕ
-  word = s .pointer + 65536 * s .condition + 262144 * s .mask + 4194304 * s .selector + 524288 * kind
+  word = s .pointer + 65536 * s .condition + 262144 * s .mask + 4194304 * s .selector + 8388608 * seat + 524288 * kind
 
   pointer-in : s .pointer < 65536 → word % 65536 ≡ s .pointer
   pointer-in p = omega arith
@@ -87,43 +87,62 @@ module _ (s : Status) (kind : ℕ) where
   selector-in : s .pointer < 65536 → s .condition < 4 → s .mask ≤ 1 → kind ≤ 7 → s .selector ≤ 1 → word / 4194304 % 2 ≡ s .selector
   selector-in p c m k t = omega arith
 
--- a status comes back out of word 0, whatever kind of three bits stands in it
-pub record BackFrom (s : Status) (kind head : ℕ) : Type 0 where
+  seat-back : s .pointer < 65536 → s .condition < 4 → s .mask ≤ 1 → kind ≤ 7 → s .selector ≤ 1 → seat ≤ 1 → word / 8388608 % 2 ≡ seat
+  seat-back p c m k t h = omega arith
+
+-- a status comes back out of word 0, and so does the seat, whatever kind of three bits stands in it
+pub record BackFrom (s : Status) (seat kind head : ℕ) : Type 0 where
   pub status : unpacked head ≡ s
   pub between : head / 2 ^ 19 % 8 ≡ kind
-  pub whole : head < 2 ^ 23
+  pub whose : head / 2 ^ 23 % 2 ≡ seat
+  pub whole : head < 2 ^ 24
 
--- and word 0 is the status and the kind that are taken out of it, where no bit above 22 is set
-head-back : (w : ℕ) → w < 2 ^ 23 → packed (unpacked w) + 2 ^ 19 * (w / 2 ^ 19 % 8) ≡ w
+-- and word 0 is the status, the seat and the kind that are taken out of it, where no bit above 23 is set
+head-back : (w : ℕ) → w < 2 ^ 24 → packed (unpacked w) + 2 ^ 23 * (w / 2 ^ 23 % 2) + 2 ^ 19 * (w / 2 ^ 19 % 8) ≡ w
 unfolding packed unpacked
-head-back w h = joined (w % 65536) (w / 65536 % 4) (w / 262144 % 2) (w / 524288 % 8) (w / 4194304 % 2) (w / 65536) (w / 262144) (w / 524288) w (omega arith) (omega arith) (omega arith) (omega arith)
+head-back w h =
+    joined (w % 65536) (w / 65536 % 4) (w / 262144 % 2) (w / 524288 % 8) (w / 4194304 % 2) (w / 8388608 % 2) (w / 65536) (w / 262144) (w / 524288) (w / 4194304) w
+    (omega arith) (omega arith) (omega arith) (omega arith) (omega arith)
   where
     -- part by part, each with what stands above it
     joined :
-        (p c m k s above-p above-c above-m w : ℕ) → w ≡ p + 65536 * above-p → above-p ≡ c + 4 * above-c → above-c ≡ m + 2 * above-m → above-m ≡ k + 8 * s →
-        p + 65536 * c + 262144 * m + 4194304 * s + 524288 * k ≡ w
-    joined p c m k s above-p above-c above-m w a b d e = omega arith
+        (p c m k s seat above-p above-c above-m above-k w : ℕ) → w ≡ p + 65536 * above-p → above-p ≡ c + 4 * above-c → above-c ≡ m + 2 * above-m →
+        above-m ≡ k + 8 * above-k → above-k ≡ s + 2 * seat → p + 65536 * c + 262144 * m + 4194304 * s + 8388608 * seat + 524288 * k ≡ w
+    joined p c m k s seat above-p above-c above-m above-k w a b d e f = omega arith
 
-module _ (s : Status) (hp : s .pointer < 65536) (hc : conditionFormed (s .condition) ≡ true) (hm : s .mask ≤ 1) (hs : s .selector ≤ 1) where
-  status-back : (kind : ℕ) → kind ≤ 7 → BackFrom s kind (packed s + 2 ^ 19 * kind)
+module _ (seat : ℕ) (hk : seat ≤ 1) (s : Status) (hp : s .pointer < 65536) (hc : conditionFormed (s .condition) ≡ true) (hm : s .mask ≤ 1) (hs : s .selector ≤ 1) where
+  -- word 0 but for the kind
+  abbrev base : ℕ
+  base = packed s + 2 ^ 23 * seat
+
+  head-from : (kind : ℕ) → kind ≤ 7 → BackFrom s seat kind (base + 2 ^ 19 * kind)
   unfolding packed unpacked
-  status-back kind hk =
+  head-from kind few =
       let below = condition-below (s .condition) hc in
       record {
-        status = rw (pointer-in s kind hp, condition-in s kind hp below, mask-in s kind hp below hm, selector-in s kind hp below hm hk hs);
-        between = kind-in s kind hp below hm hk;
+        status = rw (pointer-in s seat kind hp, condition-in s seat kind hp below, mask-in s seat kind hp below hm, selector-in s seat kind hp below hm few hs);
+        between = kind-in s seat kind hp below hm few;
+        whose = seat-back s seat kind hp below hm few hs hk;
         whole = omega arith;
       }
 
+  -- what is read of a record: its status and change, and its seat
+  abbrev ReadAs : Record → Change → Type 0
+  ReadAs q ch = (decoded q ≡ gives (effectFrom s ch)) × (seatIn q ≡ seat)
+
   at-kind :
       (kind place left right : ℕ) (ch : Change) → kind ≤ 7 → changeFrom kind place left right ≡ gives ch →
-      decoded (fourWords (packed s + 2 ^ 19 * kind) place left right) ≡ gives (effectFrom s ch)
-  unfolding decoded
-  at-kind kind place left right ch k e = let b = status-back kind k in rw (b .status, hc, lt-ltb _ (2 ^ 23) (b .whole), b .between, e)
+      ReadAs (fourWords (base + 2 ^ 19 * kind) place left right) ch
+  unfolding decoded seatIn
+  at-kind kind place left right ch k e =
+      let b = head-from kind k in
+      (rw (b .status, hc, lt-ltb _ (2 ^ 24) (b .whole), b .between, e), b .whose)
 
-  change-back : (ch : Change) → registered ch ≡ true → decoded (encodedAs (packed s) ch) ≡ gives (effectFrom s ch)
+  change-back : (ch : Change) → registered ch ≡ true → ReadAs (encodedAs base ch) ch
   unfolding encodedAs changeFrom registered
-  change-back Change.Nothing h = let none : packed s + 2 ^ 19 * 0 ≡ packed s = omega arith in rw none at (at-kind 0 0 0 0 Change.Nothing (omega arith) refl)
+  change-back Change.Nothing h =
+      let none : base + 2 ^ 19 * 0 ≡ base = omega arith in
+      subst (λ (w : ℕ). ReadAs (fourWords w 0 0 0) Change.Nothing) none (at-kind 0 0 0 0 Change.Nothing (omega arith) refl)
   change-back (Change.Float r w) h = at-kind 1 r w 0 (Change.Float r w) (omega arith) (rw h)
   change-back (Change.Pair r x y) h = at-kind 2 r x y (Change.Pair r x y) (omega arith) (rw h)
   change-back (Change.General r w) h = at-kind 3 r w 0 (Change.General r w) (omega arith) (rw h)
@@ -131,8 +150,8 @@ module _ (s : Status) (hp : s .pointer < 65536) (hc : conditionFormed (s .condit
   change-back (Change.Four a x y) h = at-kind 5 a x y (Change.Four a x y) (omega arith) refl
 
 -- what is encoded is decoded
-pub decoded-encoded : (e : Effect) → Recordable e → decoded (encoded e) ≡ gives e
-decoded-encoded e r = change-back (e .status) (r .pointer) (r .condition) (r .mask) (r .selector) (e .change) (r .registers)
+pub decoded-encoded : (k : ℕ) → k ≤ 1 → (e : Effect) → Recordable e → (decoded (encoded k e) ≡ gives e) × (seatIn (encoded k e) ≡ k)
+decoded-encoded k h e r = change-back k h (e .status) (r .pointer) (r .condition) (r .mask) (r .selector) (e .change) (r .registers)
 
 -- what is taken out of word 0 is of its width
 narrow : (w : ℕ) → (unpacked w .mask ≤ 1) × (unpacked w .selector ≤ 1) × (unpacked w .pointer < 65536)
@@ -140,12 +159,14 @@ unfolding unpacked
 narrow w = (omega arith, omega arith, omega arith)
 
 -- and nothing else is
-read-formed : (q : Record) (e : Effect) → decoded q ≡ gives e → (q ≡ encoded e) × Recordable e
+read-formed : (q : Record) (e : Effect) → decoded q ≡ gives e → (q ≡ encoded (seatIn q) e) × (seatIn q ≤ 1) × Recordable e
+unfolding seatIn
 read-formed q e h =
     let d = decoded-gives q e h in
     let w = q .head in
     let same = d .status in (
-      rw (← same, ← d .change .words (packed (unpacked w)), head-back w (d .head)),
+      rw (← same, ← d .change .words (packed (unpacked w) + 2 ^ 23 * (w / 2 ^ 23 % 2)), head-back w (d .head)),
+      omega arith,
       record {
         condition = subst (λ (s : Status). conditionFormed (s .condition) ≡ true) same (d .condition);
         mask = subst (λ (s : Status). s .mask ≤ 1) same (narrow w .0);
@@ -156,4 +177,7 @@ read-formed q e h =
     )
 
 pub read-by-form : (q : Record) (e : Effect) → ReadByForm q e
-read-by-form q e = record { formed = read-formed q e; read = λ same r. rw same (decoded-encoded e r) }
+read-by-form q e = record {
+  formed = read-formed q e;
+  read = λ k few same r. subst (λ (y : Record). (decoded y ≡ gives e) × (seatIn y ≡ k)) (sym same) (decoded-encoded k few e r);
+}

@@ -10,22 +10,22 @@ use Rattle.machine.specs.Step.{Outcome, counted, onward}
 use Rattle.conditions.specs.Trail.{Call, Reply, replyOf, standing, replies}
 use Rattle.conditions.specs.Theorems.{SameCalls}
 
--- steps
-module _ (P : Machine → Type 0) (u v : Machine → Answer Effect) (same : (x : Machine) → P x → u x ≡ v x) (kept : (e : Effect) (x : Machine) → P x → P (committed e x)) where
+-- steps of seat k
+module _ (k : ℕ) (P : Machine → Type 0) (u v : Machine → Answer Effect) (same : (x : Machine) → P x → u x ≡ v x) (kept : (e : Effect) (x : Machine) → P x → P (committed k e x)) where
   -- a step, and whatever follows it
   pub onward-same :
       (x : Machine) → P x → (f g : Machine → Outcome Machine) → ((y : Machine) → P y → f y ≡ g y) →
-      onward (u x) x (λ e. committed e x) f ≡ onward (v x) x (λ e. committed e x) g
+      onward (u x) x (λ e. committed k e x) f ≡ onward (v x) x (λ e. committed k e x) g
   onward-same x h f g rest = rw (same x h) (cases (v x))
     where
-      cases : (a : Answer Effect) → onward a x (λ e. committed e x) f ≡ onward a x (λ e. committed e x) g
-      cases (stops k) = refl
-      cases (gives e) = ap counted (rest (committed e x) (kept e x h))
+      cases : (a : Answer Effect) → onward a x (λ e. committed k e x) f ≡ onward a x (λ e. committed k e x) g
+      cases (stops n) = refl
+      cases (gives e) = ap counted (rest (committed k e x) (kept e x h))
 
-  pub repeated-same : (n : ℕ) (x : Machine) → P x → repeated u (λ y e. committed e y) n x ≡ repeated v (λ y e. committed e y) n x
+  pub repeated-same : (n : ℕ) (x : Machine) → P x → repeated u (λ y e. committed k e y) n x ≡ repeated v (λ y e. committed k e y) n x
   unfolding repeated
   repeated-same zero x h = refl
-  repeated-same (suc n) x h = onward-same x h (repeated u (λ y e. committed e y) n) (repeated v (λ y e. committed e y) n) (repeated-same n)
+  repeated-same (suc n) x h = onward-same x h (repeated u (λ y e. committed k e y) n) (repeated v (λ y e. committed k e y) n) (repeated-same n)
 
 -- lists of calls
 module _ (P : Machine → Type 0) (f g : Call → Machine → Outcome Machine) (same : (c : Call) (x : Machine) → P x → f c x ≡ g c x) (kept : (c : Call) (x : Machine) → P x → P (f c x .after)) where

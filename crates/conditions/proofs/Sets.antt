@@ -1,6 +1,6 @@
 -- A step leaves the set of general registers that is not selected, and only SET changes the selector.
 use Prim.Native.Nat.{ℕ, _≤_}
-use mathlib.Core.Path.{_≡_, refl, sym, ap}
+use mathlib.Core.Path.{_≡_, refl, sym, ap, subst}
 use mathlib.Core.List.{List}
 use mathlib.Core.Bool.{Bool, true, false, cond, not, _&&_, _||_}
 use lib.Dec.{eqb, leb}
@@ -26,16 +26,19 @@ use Rattle.orders.proofs.Table.{allRows, row-passes}
 use Rattle.protection.specs.Form.{ProtectList}
 use Rattle.machine.specs.declared.change.Change.{Change}
 use Rattle.machine.specs.declared.state.Registers.{Registers}
+use Rattle.machine.specs.declared.state.State.{State}
 use Rattle.machine.specs.declared.verdict.Effect.{Effect}
 use Rattle.machine.specs.Change.{registered, generalAfter}
-use Rattle.machine.specs.Decide.{decided}
+use Rattle.machine.specs.Decide.{pointerOf, decided}
 use Rattle.machine.specs.Effect.{fixedInto, resultInto, productWidth, performed, effectOf}
 use Rattle.machine.specs.Jump.{jumped, countedDown}
 use Rattle.machine.specs.Machine.{Machine, committed}
 use Rattle.machine.specs.Operand.{floatOperand, secondOperand, addressIn}
+use Rattle.machine.specs.Seats.{registersOf}
 use Rattle.machine.specs.Step.{outcome, onward, verdictOf, stepped}
 use Rattle.machine.proofs.Decided.{Taken, decided-taken}
 use Rattle.conditions.specs.Theorems.{OneSetAfter, OneSet}
+use Rattle.conditions.proofs.Decisions.{registers-after}
 
 -- no other row than that of code 35 has its verb
 unfoldable onlySet : ℕ → Operation → Bool
@@ -78,12 +81,13 @@ module _ (o : Order) (g : Registers) (e : Effect) where
   performed-selector Verb.Select w a b n h = absurd (let y : _≡_ {A = ℕ} 0 1 = cc in omega arith)
 
 decided-selector :
-    (d : List ℕ) (p : ProtectList) (g : Registers) (used : ℕ) (m : List ℕ) (journal : ℕ) (e : Effect) →
-    decided d p g used m journal ≡ gives e → (orderAt d (g .status .pointer) .code ≡ 35 → ⊥) → e .status .selector ≡ g .status .selector
+    (d : List ℕ) (p : ProtectList) (k : ℕ) (s : State) (m : List ℕ) (journal : ℕ) (e : Effect) →
+    decided d p k s m journal ≡ gives e → (orderAt d (pointerOf k s) .code ≡ 35 → ⊥) → e .status .selector ≡ registersOf k s .status .selector
 unfolding effectOf onlySet
-decided-selector d p g used m journal e h other =
-    let t = decided-taken d p g used m journal e h in
-    let o = orderAt d (g .status .pointer) in
+decided-selector d p k s m journal e h other =
+    let t = decided-taken d p k s m journal e h in
+    let g = registersOf k s in
+    let o = orderAt d (pointerOf k s) in
     let op = t .operation in
     let a = addressIn o g in
     let row = row-passes onlySet rows-set (o .code) op (legal-row o op (t .legal) .0) in
@@ -91,12 +95,12 @@ decided-selector d p g used m journal e h other =
     (cases (isSelect (op .verb)) (eqb (o .code) 35) refl row) (t .effect)
   where
     code : ℕ
-    code = orderAt d (g .status .pointer) .code
+    code = orderAt d (pointerOf k s) .code
 
     cases : (b c : Bool) → eqb code 35 ≡ c → (not b || c) ≡ true → b ≡ false
-    cases false c k r = refl
-    cases true true k r = absurd (other (eqb-true code 35 k))
-    cases true false k r = absurd (let y : _≡_ {A = ℕ} 0 1 = cc in omega arith)
+    cases false c q r = refl
+    cases true true q r = absurd (other (eqb-true code 35 q))
+    cases true false q r = absurd (let y : _≡_ {A = ℕ} 0 1 = cc in omega arith)
 
 -- a change of register q of set s, seen from another register or set
 pub other-general :
@@ -124,24 +128,26 @@ other-set (Change.General q w) n s t r h k = other-general n s q w t r (leb-true
 other-set (Change.Two a w) n s t r h k = refl
 other-set (Change.Four a x y) n s t r h k = refl
 
-pub one-set : (d : List ℕ) (p : ProtectList) (x : Machine) → OneSet d p x
+pub one-set : (d : List ℕ) (p : ProtectList) (k : ℕ) (x : Machine) → OneSet d p k x
 unfolding stepped
-one-set d p x = cases (verdictOf d p x) refl
+one-set d p k x = cases (verdictOf d p k x) refl
   where
     g : Registers
-    g = x .state .registers
+    g = registersOf k (x .state)
 
     after : Answer Effect → Registers
-    after v = onward v x (λ e. committed e x) (λ y. outcome y 0 0) .after .state .registers
+    after v = registersOf k (onward v x (λ e. committed k e x) (λ y. outcome y 0 0) .after .state)
 
-    taken : (e : Effect) → verdictOf d p x ≡ gives e → Taken d p g (x .state .used) (x .memory) (length (x .journal)) e
-    taken e h = decided-taken d p g (x .state .used) (x .memory) (length (x .journal)) e h
+    taken : (e : Effect) → verdictOf d p k x ≡ gives e → Taken d p k (x .state) (x .memory) (length (x .journal)) e
+    taken e h = decided-taken d p k (x .state) (x .memory) (length (x .journal)) e h
 
-    cases : (v : Answer Effect) → verdictOf d p x ≡ v → OneSetAfter d x (after v)
-    cases (stops k) h = record { other = λ s r z. refl; selector = λ z. refl }
-    cases (gives e) h = record {
-      other = λ s r z.
-          rw (taken e h .fine .general (g .general))
-          (other-set (e .change) (g .general) (g .status .selector) s r (taken e h .fine .registers) z);
-      selector = λ z. decided-selector d p g (x .state .used) (x .memory) (length (x .journal)) e h z;
-    }
+    cases : (v : Answer Effect) → verdictOf d p k x ≡ v → OneSetAfter d k x (after v)
+    cases (stops n) h = record { other = λ s r z. refl; selector = λ z. refl }
+    cases (gives e) h =
+        subst (OneSetAfter d k x) (sym (registers-after k e x))
+        (record {
+          other = λ s r z.
+              rw (taken e h .fine .general (g .general))
+              (other-set (e .change) (g .general) (g .status .selector) s r (taken e h .fine .registers) z);
+          selector = λ z. decided-selector d p k (x .state) (x .memory) (length (x .journal)) e h z;
+        })

@@ -2,14 +2,17 @@
 use Rattle.protection.specs.Bits.{bitwise}
 use Rattle.conditions.specs.Theorems.{Theorems}
 use Rattle.conditions.proofs.Absent.{absent-above}
+use Rattle.conditions.proofs.Apart.{apart-alone, starts-as}
 use Rattle.conditions.proofs.Leaves.{leaves-all}
 use Rattle.conditions.proofs.Numbers.{one-of-the-numbers, zero-is-taken}
+use Rattle.conditions.proofs.Others.{leaves-other}
 use Rattle.conditions.proofs.Packed.{same-over, as-before}
 use Rattle.conditions.proofs.Protected.{protected-keeps}
 use Rattle.conditions.proofs.Records.{read-by-form}
 use Rattle.conditions.proofs.Return.{back-and-forth, refused-at-start}
 use Rattle.conditions.proofs.RoundTrip.{round-trip}
 use Rattle.conditions.proofs.Sets.{one-set}
+use Rattle.conditions.proofs.Touch.{unstored-kept, untouched-free}
 use Rattle.conditions.proofs.Trail.{as-trail, included}
 use Rattle.conditions.proofs.Unindexed.{unindexed}
 use Rattle.conditions.proofs.Unread.{unread-free}
@@ -36,4 +39,9 @@ theorems = record {
   round-trip = round-trip;
   unwritten-kept = unwritten-kept;
   unread-free = unread-free;
+  leaves-other = leaves-other;
+  unstored-kept = unstored-kept;
+  untouched-free = untouched-free;
+  apart = apart-alone;
+  starts-as = starts-as;
 }

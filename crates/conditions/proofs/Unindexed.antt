@@ -4,6 +4,7 @@ use mathlib.Core.Path.{_≡_, refl}
 use mathlib.Core.List.{List}
 use lib.ListN.{length}
 use Rattle.protection.specs.Form.{ProtectList}
+use Rattle.machine.specs.Decide.{pointerOf}
 use Rattle.machine.specs.Machine.{Machine}
 use Rattle.machine.specs.Run.{ran}
 use Rattle.machine.specs.Step.{outcome, verdictOf, stepped}
@@ -19,13 +20,13 @@ module _ (d : List ℕ) (p : ProtectList) (none : NoIndexIn d) where
   abbrev Any : Machine → Type 0
   Any x = Unit {0}
 
-  verdict-unindexed : (x : Machine) → Any x → verdictOf d p x ≡ unindexedVerdict d p x
-  verdict-unindexed x h = decided-unindexed d p (x .state .registers) (x .state .used) (x .memory) (length (x .journal)) (none (x .state .registers .status .pointer))
+  verdict-unindexed : (k : ℕ) (x : Machine) → Any x → verdictOf d p k x ≡ unindexedVerdict d p k x
+  verdict-unindexed k x h = decided-unindexed d p k (x .state) (x .memory) (length (x .journal)) (none (pointerOf k (x .state)))
 
   call-unindexed : (c : Call) (x : Machine) → Any x → called d p c x ≡ unindexedCalled d p c x
   unfolding called unindexedCalled stepped ran
-  call-unindexed step x h = onward-same Any (verdictOf d p) (unindexedVerdict d p) verdict-unindexed (λ e y k. k) x h (λ y. outcome y 0 0) (λ y. outcome y 0 0) (λ y k. refl)
-  call-unindexed (run n) x h = rw (repeated-same Any (verdictOf d p) (unindexedVerdict d p) verdict-unindexed (λ e y k. k) n x h)
+  call-unindexed (step k) x h = onward-same k Any (verdictOf d p k) (unindexedVerdict d p k) (verdict-unindexed k) (λ e y i. i) x h (λ y. outcome y 0 0) (λ y. outcome y 0 0) (λ y i. refl)
+  call-unindexed (run k n) x h = rw (repeated-same k Any (verdictOf d p k) (unindexedVerdict d p k) (verdict-unindexed k) (λ e y i. i) n x h)
   call-unindexed back x h = refl
 
   pub unindexed : (x : Machine) → SameCalls (called d p) (unindexedCalled d p) x

@@ -25,15 +25,18 @@ use Rattle.machine.specs.declared.state.Status.{Status}
 use Rattle.machine.specs.declared.verdict.Effect.{Effect}
 use Rattle.machine.specs.Change.{memoryAfter}
 use Rattle.machine.specs.Check.{present, anyProtected}
-use Rattle.machine.specs.Decide.{entryStop, accessed, judged, decided}
+use Rattle.machine.specs.Decide.{entryStop, accessed, judged}
 use Rattle.machine.specs.Effect.{performed, effectOf}
 use Rattle.machine.specs.Machine.{Machine, registers, committed}
 use Rattle.machine.specs.Operand.{floatOperand, storageOperand, secondOperand, addressIn}
+use Rattle.machine.specs.Seats.{registersOf, otherOf}
 use Rattle.machine.specs.Step.{Outcome, outcome, onward, nextOrder, verdictOf, stepped}
 use Rattle.machine.specs.Uses.{Register, float, general, contents, floats, indexRead, secondRead, named, readBy}
 use Rattle.machine.proofs.Placed.{some}
 use Rattle.machine.proofs.Rows.{legal-passed}
 use Rattle.conditions.specs.Theorems.{AlikeRead, AlikeAfter}
+use Rattle.machine.proofs.Seats.{decidedOf, decided-own}
+use Rattle.conditions.proofs.Decisions.{registers-after, other-after}
 use Rattle.conditions.proofs.Leaves.{stop-number}
 use Rattle.conditions.proofs.Written.{written-decided}
 
@@ -149,59 +152,65 @@ module _ (s : Status) (f n f′ n′ : List ℕ) where
 
   -- every check of a step, where the registers that the order at the pointer reads hold the same
   decided-same :
-      (d : List ℕ) (p : ProtectList) (used : ℕ) (m : List ℕ) (journal : ℕ) →
+      (d : List ℕ) (p : ProtectList) (k : ℕ) (beside : Status) (used : ℕ) (m : List ℕ) (journal : ℕ) →
       ((op : Operation) → legalOf (orderAt d (s .pointer)) ≡ gives op → Same (readBy op (orderAt d (s .pointer)) selected)) →
-      decided d p one used m journal ≡ decided d p other used m journal
-  unfolding decided judged
-  decided-same d p used m journal k =
+      decidedOf d p k one beside used m journal ≡ decidedOf d p k other beside used m journal
+  unfolding judged
+  decided-same d p k beside used m journal same =
       let o = orderAt d (s .pointer) in
-      ap (λ (e : Answer Effect). checked (entryStop (length d) p s used (length m) journal) (provided (ltb (s .pointer) (length d / 4)) 4 e))
+      ap (λ (e : Answer Effect). checked (entryStop k (length d) p s beside used (length m) journal) (provided (ltb (s .pointer) (length d / 4)) 4 e))
       (then-same (legalOf o) (judged o one used p m (a o) journal) (judged o other used p m (a′ o) journal)
       (λ op legal. ap (λ (e : Answer Effect). provided (not (isHalt (op .verb))) 12 (provided (ltb used (journal / 4)) 13 e))
-      (accessed-same o p m op legal (k op legal))))
+      (accessed-same o p m op legal (same op legal))))
 
-module _ (d : List ℕ) (p : ProtectList) (x y : Machine) (k : AlikeRead d x y) where
+module _ (d : List ℕ) (p : ProtectList) (k : ℕ) (x y : Machine) (alike : AlikeRead d k x y) where
   abbrev g : Registers
-  g = x .state .registers
+  g = registersOf k (x .state)
 
   abbrev h : Registers
-  h = y .state .registers
+  h = registersOf k (y .state)
 
   -- both are decided alike
-  verdict-same : verdictOf d p x ≡ verdictOf d p y
+  verdict-same : verdictOf d p k x ≡ verdictOf d p k y
   verdict-same =
-      decided-same (g .status) (g .float) (g .general) (h .float) (h .general) d p (x .state .used) (x .memory) (length (x .journal)) agree
-      ∙ λ i. decided d p (registers (h .float) (h .general) (k .status i)) (k .used i) (k .memory i) (k .room i)
+      decided-own d p k (x .state) (x .memory) (length (x .journal))
+      ∙ decided-same (g .status) (g .float) (g .general) (h .float) (h .general) d p k (otherOf k (x .state) .status) (x .state .used) (x .memory) (length (x .journal)) agree
+      ∙ (λ i. decidedOf d p k (registers (h .float) (h .general) (alike .status i)) (alike .beside i) (alike .used i) (alike .memory i) (alike .room i))
+      ∙ sym (decided-own d p k (y .state) (y .memory) (length (y .journal)))
     where
       agree :
-          (op : Operation) → legalOf (nextOrder d x) ≡ gives op →
-          Same (g .status) (g .float) (g .general) (h .float) (h .general) (readBy op (nextOrder d x) (g .status .selector))
+          (op : Operation) → legalOf (nextOrder d k x) ≡ gives op →
+          Same (g .status) (g .float) (g .general) (h .float) (h .general) (readBy op (nextOrder d k x) (g .status .selector))
       agree op legal r m =
-          k .read r (record { operation = op; legal = legal; reads = m })
-          ∙ ap (λ (s : Status). contents (registers (h .float) (h .general) s) r) (sym (k .status))
+          alike .read r (record { operation = op; legal = legal; reads = m })
+          ∙ ap (λ (s : Status). contents (registers (h .float) (h .general) s) r) (sym (alike .status))
 
   -- and so they come out alike: what stands after a step is the effect's, or as it was
-  pub unread-free : AlikeAfter d x (stepped d p x) (stepped d p y)
+  pub unread-free : AlikeAfter d k x (stepped d p k x) (stepped d p k y)
   unfolding stepped
-  unread-free = subst (λ (v : Answer Effect). AlikeAfter d x (after (verdictOf d p x) x) (after v y)) verdict-same (cases (verdictOf d p x) refl)
+  unread-free = subst (λ (v : Answer Effect). AlikeAfter d k x (after (verdictOf d p k x) x) (after v y)) verdict-same (cases (verdictOf d p k x) refl)
     where
       after : Answer Effect → Machine → Outcome Machine
-      after v z = onward v z (λ e. committed e z) (λ t. outcome t 0 0)
+      after v z = onward v z (λ e. committed k e z) (λ t. outcome t 0 0)
 
-      cases : (v : Answer Effect) → verdictOf d p x ≡ v → AlikeAfter d x (after v x) (after v y)
+      cases : (v : Answer Effect) → verdictOf d p k x ≡ v → AlikeAfter d k x (after v x) (after v y)
       cases (stops n) t = record {
         taken = refl;
         stop = refl;
-        status = k .status;
-        used = k .used;
-        memory = k .memory;
-        written = λ z. absurd (stop-number d p x n t z);
+        status = alike .status;
+        beside = alike .beside;
+        used = alike .used;
+        memory = alike .memory;
+        written = λ z. absurd (stop-number d p k x n t z);
       }
       cases (gives e) t = record {
         taken = refl;
         stop = refl;
-        status = refl;
-        used = ap (λ (n : ℕ). n + 1) (k .used);
-        memory = ap (memoryAfter (e .change)) (k .memory);
-        written = λ z r n. let w = written-decided d p x e t r n in w .1 g (k .typed) ∙ sym (w .1 h (k .typed-too));
+        status = ap (λ (r : Registers). r .status) (registers-after k e x) ∙ ap (λ (r : Registers). r .status) (sym (registers-after k e y));
+        beside = ap (λ (r : Registers). r .status) (other-after k e x) ∙ alike .beside ∙ ap (λ (r : Registers). r .status) (sym (other-after k e y));
+        used = ap (λ (n : ℕ). n + 1) (alike .used);
+        memory = ap (memoryAfter (e .change)) (alike .memory);
+        written = λ z r n.
+            let w = written-decided d p k x e t r n in
+            ap (λ (q : Registers). contents q r) (registers-after k e x) ∙ w .1 g (alike .typed) ∙ sym (w .1 h (alike .typed-too)) ∙ ap (λ (q : Registers). contents q r) (sym (registers-after k e y));
       }

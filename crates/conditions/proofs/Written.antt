@@ -33,10 +33,12 @@ use Rattle.machine.specs.Effect.{fixedInto, resultInto, productWidth, performed
 use Rattle.machine.specs.Jump.{jumped, countedDown}
 use Rattle.machine.specs.Machine.{Machine, committed}
 use Rattle.machine.specs.Operand.{floatAt, floatOperand, secondOperand}
+use Rattle.machine.specs.Seats.{registersOf}
 use Rattle.machine.specs.Step.{outcome, onward, nextOrder, nextAddress, verdictOf, stepped}
 use Rattle.machine.specs.Uses.{Register, float, general, contents, floats, named, writtenBy}
 use Rattle.machine.proofs.Decided.{Taken, decided-taken}
 use Rattle.conditions.specs.Theorems.{TypedRegisters, NextWrites}
+use Rattle.conditions.proofs.Decisions.{registers-after}
 use Rattle.conditions.proofs.Sets.{other-general}
 
 -- the registers that a change overwrites, a general one being of set s
@@ -162,43 +164,44 @@ decides (Change.General q w) z r h s m =
 decides (Change.Two a w) z r h s m = absurd (List·Memᴰ·not-nil m)
 decides (Change.Four a x y) z r h s m = absurd (List·Memᴰ·not-nil m)
 
-module _ (d : List ℕ) (p : ProtectList) (x : Machine) where
+module _ (d : List ℕ) (p : ProtectList) (k : ℕ) (x : Machine) where
   abbrev g : Registers
-  g = x .state .registers
+  g = registersOf k (x .state)
 
-  taken : (e : Effect) → verdictOf d p x ≡ gives e → Taken d p g (x .state .used) (x .memory) (length (x .journal)) e
-  taken e h = decided-taken d p g (x .state .used) (x .memory) (length (x .journal)) e h
+  taken : (e : Effect) → verdictOf d p k x ≡ gives e → Taken d p k (x .state) (x .memory) (length (x .journal)) e
+  taken e h = decided-taken d p k (x .state) (x .memory) (length (x .journal)) e h
 
   -- a step that is taken overwrites just what the table says of its order
   taken-touched :
-      (e : Effect) → verdictOf d p x ≡ gives e → (op : Operation) → legalOf (nextOrder d x) ≡ gives op →
-      touched e ≡ writtenBy op (nextOrder d x) (g .status .selector)
+      (e : Effect) → verdictOf d p k x ≡ gives e → (op : Operation) → legalOf (nextOrder d k x) ≡ gives op →
+      touched e ≡ writtenBy op (nextOrder d k x) (g .status .selector)
   unfolding effectOf
   taken-touched e h op legal =
       let t = taken e h in
       let by = t .operation in
       let same : by ≡ op = gives-inj (sym (t .legal) ∙ legal) in
-      let b = secondOperand (by .place) (by .width) (nextOrder d x) (g .float) (g .general) (g .status .selector) (x .memory) (nextAddress d x) in
-      performed-touched (nextOrder d x) g e (by .verb) (by .width) (nextAddress d x) b (t .effect)
-      ∙ ap (λ (y : Operation). writtenBy y (nextOrder d x) (g .status .selector)) same
+      let b = secondOperand (by .place) (by .width) (nextOrder d k x) (g .float) (g .general) (g .status .selector) (x .memory) (nextAddress d k x) in
+      performed-touched (nextOrder d k x) g e (by .verb) (by .width) (nextAddress d k x) b (t .effect)
+      ∙ ap (λ (y : Operation). writtenBy y (nextOrder d k x) (g .status .selector)) same
 
   -- so what it writes it decides
-  pub written-decided : (e : Effect) → verdictOf d p x ≡ gives e → (r : Register) → NextWrites d x r → Decides e r
+  pub written-decided : (e : Effect) → verdictOf d p k x ≡ gives e → (r : Register) → NextWrites d k x r → Decides e r
   written-decided e h r n =
       let fine = taken e h .fine in
       decides (e .change) (e .status) r (fine .registers) (fine .selector) (rw (taken-touched e h (n .operation) (n .legal)) (n .writes))
 
   -- and the others it keeps
-  pub unwritten-kept : (r : Register) → (NextWrites d x r → ⊥) → contents (stepped d p x .after .state .registers) r ≡ contents g r
+  pub unwritten-kept : (r : Register) → (NextWrites d k x r → ⊥) → contents (registersOf k (stepped d p k x .after .state)) r ≡ contents g r
   unfolding stepped
-  unwritten-kept r no-write = cases (verdictOf d p x) refl
+  unwritten-kept r no-write = cases (verdictOf d p k x) refl
     where
       after : Answer Effect → Registers
-      after v = onward v x (λ e. committed e x) (λ y. outcome y 0 0) .after .state .registers
+      after v = registersOf k (onward v x (λ e. committed k e x) (λ y. outcome y 0 0) .after .state)
 
-      cases : (v : Answer Effect) → verdictOf d p x ≡ v → contents (after v) r ≡ contents g r
-      cases (stops k) h = refl
+      cases : (v : Answer Effect) → verdictOf d p k x ≡ v → contents (after v) r ≡ contents g r
+      cases (stops n) h = refl
       cases (gives e) h =
           let t = taken e h in
-          kept e g r (t .fine .registers)
+          ap (λ (q : Registers). contents q r) (registers-after k e x)
+          ∙ kept e g r (t .fine .registers)
           (λ m. no-write (record { operation = t .operation; legal = t .legal; writes = rw (taken-touched e h (t .operation) (t .legal)) at m }))

@@ -1,3 +1,4 @@
 pub mod Trail
+pub mod Apart
 pub mod Unindexed
 pub mod Theorems

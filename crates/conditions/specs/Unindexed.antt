@@ -10,6 +10,6 @@ use Rattle.machine.specs.Unindexed.{unindexedVerdict}
 use Rattle.conditions.specs.Trail.{Call, step, run, back}
 
 unfoldable pub unindexedCalled : List ℕ → ProtectList → Call → Machine → Outcome Machine
-unindexedCalled d p step x = steppedBy (unindexedVerdict d p) x
-unindexedCalled d p (run n) x = admitted (entryOf d p x) x (stepsBy (unindexedVerdict d p) n x)
+unindexedCalled d p (step k) x = steppedBy (unindexedVerdict d p k) k x
+unindexedCalled d p (run k n) x = admitted (entryOf d p k x) x (stepsBy (unindexedVerdict d p k) k n x)
 unindexedCalled d p back x = backed p x
