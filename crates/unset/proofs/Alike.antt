@@ -1,7 +1,7 @@
 -- A step of each of two machines that are alike leaves them alike, where no order reads a register unset: a register in which they may differ is one that some
 -- path from the start to where they stand does not write.
 use Prim.Native.Nat.{ℕ, _*_, _/_, _%_, _<_, _≤_}
-use mathlib.Core.Path.{_≡_, refl, sym, _∙_}
+use mathlib.Core.Path.{_≡_, refl, sym, subst, _∙_}
 use mathlib.Core.List.{List, List·Memᴰ}
 use mathlib.Core.Logic.{_⊎_, inl, inr, ⊎-elim}
 use mathlib.Core.Bool.{Bool, true, false}
@@ -17,15 +17,19 @@ use Rattle.orders.proofs.Passing.{legal-row}
 use Rattle.protection.specs.Form.{ProtectList}
 use Rattle.machine.specs.declared.change.Change.{Change}
 use Rattle.machine.specs.declared.state.Registers.{Registers}
+use Rattle.machine.specs.declared.state.Status.{Status}
 use Rattle.machine.specs.declared.verdict.Effect.{Effect}
 use Rattle.machine.specs.Change.{floatAfter, generalAfter, registersAfter}
 use Rattle.machine.specs.Check.{deckSized}
+use Rattle.machine.specs.Decide.{pointerOf}
 use Rattle.machine.specs.Journal.{encoded}
 use Rattle.machine.specs.Machine.{Machine, beforeOf, committed}
+use Rattle.machine.specs.Seats.{registersOf, otherOf}
 use Rattle.machine.specs.Step.{Outcome, outcome, onward, nextOrder, verdictOf, stepped}
 use Rattle.machine.specs.Uses.{Register, contents, writtenBy}
 use Rattle.machine.proofs.Decided.{decided-taken}
 use Rattle.conditions.specs.Theorems.{TypedRegisters, NextReads, NextWrites, AlikeRead, AlikeAfter}
+use Rattle.conditions.proofs.Decisions.{registers-after}
 use Rattle.conditions.proofs.Records.{written-length}
 use Rattle.conditions.proofs.Unread.{unread-free}
 use Rattle.conditions.proofs.Written.{unwritten-kept}
@@ -60,8 +64,8 @@ typed-after e g t = record {
   general = general-length (e .change) (g .general) (e .status .selector) ∙ t .general;
 }
 
-journal-after : (e : Effect) (u : Machine) → length (committed e u .journal) ≡ length (u .journal)
-journal-after e u = written-length (u .journal) (u .state .used) (encoded (beforeOf (u .state .registers) (u .memory) e))
+journal-after : (seat : ℕ) (e : Effect) (u : Machine) → length (committed seat e u .journal) ≡ length (u .journal)
+journal-after seat e u = written-length (u .journal) (u .state .used) (encoded seat (beforeOf (registersOf seat (u .state)) (u .memory) e))
 
 -- ---- no order past the end of a deck is legal: its code is 0
 no-code : (op : Operation) → operationOf 0 ≡ gives op → ⊥
@@ -85,45 +89,47 @@ legal-inside d q op sized h = cases (ltb q (length d / 4)) refl
 -- ---- two machines, u and v, after as many steps from x and y
 
 -- a register holds the same in both, or in each what it held at the start, and then some path to here does not write it
-abbrev pub Agrees : List ℕ → Machine → Machine → Machine → Machine → Register → Type 0
-Agrees d x y u v r =
-    (contents (u .state .registers) r ≡ contents (v .state .registers) r)
-    ⊎ (ReachedUnwritten d r (pointOf u)
-    × ((contents (u .state .registers) r ≡ contents (x .state .registers) r) × (contents (v .state .registers) r ≡ contents (y .state .registers) r)))
+abbrev pub Agrees : List ℕ → ℕ → Machine → Machine → Machine → Machine → Register → Type 0
+Agrees d seat x y u v r =
+    (contents (registersOf seat (u .state)) r ≡ contents (registersOf seat (v .state)) r)
+    ⊎ (ReachedUnwritten d r (pointOf seat u)
+    × ((contents (registersOf seat (u .state)) r ≡ contents (registersOf seat (x .state)) r) × (contents (registersOf seat (v .state)) r ≡ contents (registersOf seat (y .state)) r)))
 
-pub record Alike (d : List ℕ) (x y u v : Machine) : Type 0 where
-  pub typed : TypedRegisters (u .state .registers)
-  pub typed-too : TypedRegisters (v .state .registers)
-  pub status : u .state .registers .status ≡ v .state .registers .status
+pub record Alike (d : List ℕ) (seat : ℕ) (x y u v : Machine) : Type 0 where
+  pub typed : TypedRegisters (registersOf seat (u .state))
+  pub typed-too : TypedRegisters (registersOf seat (v .state))
+  pub status : registersOf seat (u .state) .status ≡ registersOf seat (v .state) .status
+  pub beside : otherOf seat (u .state) .status ≡ otherOf seat (v .state) .status
   pub used : u .state .used ≡ v .state .used
   pub memory : u .memory ≡ v .memory
   pub room : length (u .journal) ≡ length (v .journal)
-  pub registers : (r : Register) → Agrees d x y u v r
+  pub registers : (r : Register) → Agrees d seat x y u v r
 
 -- no order reads a register that some path reaches it without having written
 abbrev pub NoneUnset : List ℕ → Type 0
 NoneUnset d = (q : ℕ) (r : Register) → ReadUnset d q r → ⊥
 
-module _ (d : List ℕ) (p : ProtectList) (x y : Machine) (sized : deckSized (length d) ≡ true) (clear : NoneUnset d) where
+module _ (d : List ℕ) (p : ProtectList) (seat : ℕ) (x y : Machine) (sized : deckSized (length d) ≡ true) (clear : NoneUnset d) where
   -- the register that the next order reads holds the same: else the order would read it unset
-  alike-read : (u v : Machine) → Alike d x y u v → AlikeRead d u v
+  alike-read : (u v : Machine) → Alike d seat x y u v → AlikeRead d seat u v
   alike-read u v k = record {
     typed = k .typed;
     typed-too = k .typed-too;
     status = k .status;
+    beside = k .beside;
     used = k .used;
     memory = k .memory;
     room = k .room;
-    read = λ r n. ⊎-elim (λ e. e) (λ w. absurd (clear (u .state .registers .status .pointer) r (unset r n (w .0)))) (k .registers r);
+    read = λ r n. ⊎-elim (λ e. e) (λ w. absurd (clear (pointerOf seat (u .state)) r (unset r n (w .0)))) (k .registers r);
   }
     where
-      unset : (r : Register) → NextReads d u r → ReachedUnwritten d r (pointOf u) → ReadUnset d (u .state .registers .status .pointer) r
+      unset : (r : Register) → NextReads d seat u r → ReachedUnwritten d r (pointOf seat u) → ReadUnset d (pointerOf seat (u .state)) r
       unset r n w = record {
-        selector = u .state .registers .status .selector;
+        selector = registersOf seat (u .state) .status .selector;
         reads = record {
           here = record {
             operation = n .operation;
-            inside = legal-inside d (u .state .registers .status .pointer) (n .operation) sized (n .legal);
+            inside = legal-inside d (pointerOf seat (u .state)) (n .operation) sized (n .legal);
             legal = n .legal;
           };
           reads = n .reads;
@@ -133,63 +139,68 @@ module _ (d : List ℕ) (p : ProtectList) (x y : Machine) (sized : deckSized (le
 
   -- a step of each, by its verdict
   abbrev pub after : Answer Effect → Machine → Outcome Machine
-  after a u = onward a u (λ e. committed e u) (λ t. outcome t 0 0)
+  after a u = onward a u (λ e. committed seat e u) (λ t. outcome t 0 0)
 
   -- they come out alike
   pub step-alike :
-      (u v : Machine) (a b : Answer Effect) → Alike d x y u v → verdictOf d p u ≡ a → verdictOf d p v ≡ b → AlikeAfter d u (after a u) (after b v)
+      (u v : Machine) (a b : Answer Effect) → Alike d seat x y u v → verdictOf d p seat u ≡ a → verdictOf d p seat v ≡ b → AlikeAfter d seat u (after a u) (after b v)
   unfolding stepped
-  step-alike u v a b k s t = rw (← s, ← t) (unread-free d p u v (alike-read u v k))
+  step-alike u v a b k s t = rw (← s, ← t) (unread-free d p seat u v (alike-read u v k))
 
   -- a step that is taken keeps a register that the order does not write
   step-kept :
-      (u : Machine) (e : Effect) (r : Register) → verdictOf d p u ≡ gives e → (NextWrites d u r → ⊥) →
-      contents (committed e u .state .registers) r ≡ contents (u .state .registers) r
+      (u : Machine) (e : Effect) (r : Register) → verdictOf d p seat u ≡ gives e → (NextWrites d seat u r → ⊥) →
+      contents (registersOf seat (committed seat e u .state)) r ≡ contents (registersOf seat (u .state)) r
   unfolding stepped
-  step-kept u e r s n = rw s at (unwritten-kept d p u r n)
+  step-kept u e r s n = rw s at (unwritten-kept d p seat u r n)
 
   -- it writes a register or not
-  writes : (u : Machine) (e : Effect) (r : Register) → verdictOf d p u ≡ gives e → Decision (NextWrites d u r)
+  writes : (u : Machine) (e : Effect) (r : Register) → verdictOf d p seat u ≡ gives e → Decision (NextWrites d seat u r)
   writes u e r s =
-      let t = decided-taken d p (u .state .registers) (u .state .used) (u .memory) (length (u .journal)) e s in
-      cases (t .operation) (t .legal) (among r (writtenBy (t .operation) (nextOrder d u) (u .state .registers .status .selector)))
+      let t = decided-taken d p seat (u .state) (u .memory) (length (u .journal)) e s in
+      cases (t .operation) (t .legal) (among r (writtenBy (t .operation) (nextOrder d seat u) (registersOf seat (u .state) .status .selector)))
     where
       cases :
-          (op : Operation) → legalOf (nextOrder d u) ≡ gives op →
-          Decision (List·Memᴰ r (writtenBy op (nextOrder d u) (u .state .registers .status .selector))) → Decision (NextWrites d u r)
+          (op : Operation) → legalOf (nextOrder d seat u) ≡ gives op →
+          Decision (List·Memᴰ r (writtenBy op (nextOrder d seat u) (registersOf seat (u .state) .status .selector))) → Decision (NextWrites d seat u r)
       cases op legal (inl m) = inl (record { operation = op; legal = legal; writes = m })
       cases op legal (inr n) = inr (λ w. n (rw (gives-inj (sym (w .legal) ∙ legal)) at (w .writes)))
 
   -- and both machines write the same ones
-  writes-too : (u v : Machine) (r : Register) → Alike d x y u v → NextWrites d v r → NextWrites d u r
-  writes-too u v r k w = record { operation = w .operation; legal = rw (k .status) (w .legal); writes = rw (k .status) (w .writes) }
+  writes-too : (u v : Machine) (r : Register) → Alike d seat x y u v → NextWrites d seat v r → NextWrites d seat u r
+  writes-too u v r k w = record {
+    operation = w .operation;
+    legal = subst (λ (s : Status). legalOf (orderAt d (s .pointer)) ≡ gives (w .operation)) (sym (k .status)) (w .legal);
+    writes = subst (λ (s : Status). List·Memᴰ r (writtenBy (w .operation) (orderAt d (s .pointer)) (s .selector))) (sym (k .status)) (w .writes);
+  }
 
   -- a path to where they stand goes on by the step, and still does not write the register
   reached-on :
-      (u : Machine) (e : Effect) (r : Register) → verdictOf d p u ≡ gives e → (NextWrites d u r → ⊥) → ReachedUnwritten d r (pointOf u) →
-      ReachedUnwritten d r (pointOf (committed e u))
+      (u : Machine) (e : Effect) (r : Register) → verdictOf d p seat u ≡ gives e → (NextWrites d seat u r → ⊥) → ReachedUnwritten d r (pointOf seat u) →
+      ReachedUnwritten d r (pointOf seat (committed seat e u))
   reached-on u e r s n w = record {
-    path = goes (w .path) (taken-leads d p u e s);
-    unwritten = (w .unwritten, λ (q : Writes d (pointOf u) r). n (record { operation = q .here .operation; legal = q .here .legal; writes = q .writes }));
+    path = goes (w .path) (taken-leads d p seat u e s);
+    unwritten = (w .unwritten, λ (q : Writes d (pointOf seat u) r). n (record { operation = q .here .operation; legal = q .here .legal; writes = q .writes }));
   }
 
   -- so both stay alike
   pub alike-on :
-      (u v : Machine) (e f : Effect) → Alike d x y u v → verdictOf d p u ≡ gives e → verdictOf d p v ≡ gives f →
-      Alike d x y (committed e u) (committed f v)
+      (u v : Machine) (e f : Effect) → Alike d seat x y u v → verdictOf d p seat u ≡ gives e → verdictOf d p seat v ≡ gives f →
+      Alike d seat x y (committed seat e u) (committed seat f v)
   alike-on u v e f k s t =
       let q = step-alike u v (gives e) (gives f) k s t in
       record {
-        typed = typed-after e (u .state .registers) (k .typed);
-        typed-too = typed-after f (v .state .registers) (k .typed-too);
+        typed = subst TypedRegisters (sym (registers-after seat e u)) (typed-after e (registersOf seat (u .state)) (k .typed));
+        typed-too = subst TypedRegisters (sym (registers-after seat f v)) (typed-after f (registersOf seat (v .state)) (k .typed-too));
         status = q .status;
+        beside = q .beside;
         used = q .used;
         memory = q .memory;
-        room = journal-after e u ∙ k .room ∙ sym (journal-after f v);
+        room = journal-after seat e u ∙ k .room ∙ sym (journal-after seat f v);
         registers = λ r. ⊎-elim (λ w. inl (q .written refl r w)) (λ n. unwritten r n (k .registers r)) (writes u e r s);
       }
     where
-      unwritten : (r : Register) → (NextWrites d u r → ⊥) → Agrees d x y u v r → Agrees d x y (committed e u) (committed f v) r
+      unwritten : (r : Register) → (NextWrites d seat u r → ⊥) → Agrees d seat x y u v r → Agrees d seat x y (committed seat e u) (committed seat f v) r
       unwritten r n c =
           let one = step-kept u e r s n in
           let two = step-kept v f r t (λ w. n (writes-too u v r k w)) in

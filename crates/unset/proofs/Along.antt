@@ -1,6 +1,6 @@
--- A step that the machine takes is a step of a path: one case a verb, by where its effect leaves the pointer and the selector.
+-- A step that a seat takes is a step of a path: one case a verb, by where its effect leaves the pointer and the selector.
 use Prim.Native.Nat.{ℕ, _+_, _/_, _<_}
-use mathlib.Core.Path.{_≡_, refl, sym, ap, _∙_}
+use mathlib.Core.Path.{_≡_, refl, sym, ap, subst, _∙_}
 use mathlib.Core.List.{List, [], _∷_, List·Memᴰ, List·Memᴰ·head, List·Memᴰ·tail}
 use mathlib.Core.Bool.{Bool, true, false, cond, not}
 use lib.Dec.{eqb, ltb}
@@ -20,14 +20,17 @@ use Rattle.orders.specs.General.{generalAt}
 use Rattle.orders.specs.Order.{isHalt, isJump}
 use Rattle.protection.specs.Form.{ProtectList}
 use Rattle.machine.specs.declared.state.Registers.{Registers}
+use Rattle.machine.specs.declared.state.State.{State}
 use Rattle.machine.specs.declared.verdict.Effect.{Effect}
-use Rattle.machine.specs.Decide.{entryStop, decided}
+use Rattle.machine.specs.Decide.{entryIn, pointerOf, decided}
 use Rattle.machine.specs.Effect.{fixedInto, resultInto, productWidth, performed, effectOf}
 use Rattle.machine.specs.Jump.{jumps, oneLess, jumped, countedDown}
 use Rattle.machine.specs.Machine.{Machine, committed}
 use Rattle.machine.specs.Operand.{floatOperand, secondOperand}
+use Rattle.machine.specs.Seats.{registersOf}
 use Rattle.machine.specs.Step.{Outcome, outcome, onward, nextOrder, nextAddress, verdictOf, stepped}
 use Rattle.machine.proofs.Decided.{decided-taken}
+use Rattle.conditions.proofs.Decisions.{registers-after}
 use Rattle.conditions.proofs.Leaves.{stop-number}
 use Rattle.unset.specs.declared.path.Point.{Point}
 use Rattle.unset.specs.Path.{point, selectorAfter, nexts, Leads}
@@ -66,10 +69,10 @@ module _ (o : Order) (g : Registers) (e : Effect) where
   as-result sets u r h = as-mapped (resultInto sets u (g .status) (o .r1)) r (λ a. refl) h
 
   -- every verb leads on, or to `at` where it is a jump
-  performed-leads :
-      (v : Verb) (w : Width) (a : ℕ) (b : Words) → performed v w o g a b ≡ gives e →
-      List·Memᴰ (toward e)
-      (cond (isHalt v) [] (point (here .order + 1) (selectorAfter v o (here .selector)) ∷ cond (isJump v) (point (o .at) (here .selector) ∷ []) []))
+  abbrev ways : Verb → List Point
+  ways v = cond (isHalt v) [] (point (here .order + 1) (selectorAfter v o (here .selector)) ∷ cond (isJump v) (point (o .at) (here .selector) ∷ []) [])
+
+  performed-leads : (v : Verb) (w : Width) (a : ℕ) (b : Words) → performed v w o g a b ≡ gives e → List·Memᴰ (toward e) (ways v)
   unfolding performed jumped countedDown
   performed-leads Verb.Load w a b h = goes-on refl h
   performed-leads Verb.Complement w a b h = goes-on refl h
@@ -93,36 +96,38 @@ module _ (o : Order) (g : Registers) (e : Effect) where
 
 -- check 4 passes where a step is taken
 decided-inside :
-    (d : List ℕ) (p : ProtectList) (g : Registers) (used : ℕ) (m : List ℕ) (journal : ℕ) (e : Effect) →
-    decided d p g used m journal ≡ gives e → g .status .pointer < length d / 4
+    (d : List ℕ) (p : ProtectList) (seat : ℕ) (s : State) (m : List ℕ) (journal : ℕ) (e : Effect) → decided d p seat s m journal ≡ gives e → pointerOf seat s < length d / 4
 unfolding decided
-decided-inside d p g used m journal e h =
-    let k3 = checked-gives (entryStop (length d) p (g .status) used (length m) journal) _ h in
-    let k4 = provided-gives (ltb (g .status .pointer) (length d / 4)) 4 _ (k3 .1) in
-    ltb-true (g .status .pointer) (length d / 4) (k4 .0)
+decided-inside d p seat s m journal e h =
+    let k3 = checked-gives (entryIn seat (length d) p s (length m) journal) _ h in
+    let k4 = provided-gives (ltb (pointerOf seat s) (length d / 4)) 4 _ (k3 .1) in
+    ltb-true (pointerOf seat s) (length d / 4) (k4 .0)
 
-module _ (d : List ℕ) (p : ProtectList) (x : Machine) where
+module _ (d : List ℕ) (p : ProtectList) (seat : ℕ) (x : Machine) where
   abbrev g : Registers
-  g = x .state .registers
+  g = registersOf seat (x .state)
 
-  pub taken-leads : (e : Effect) → verdictOf d p x ≡ gives e → Leads d (pointOf x) (pointOf (committed e x))
+  pub taken-leads : (e : Effect) → verdictOf d p seat x ≡ gives e → Leads d (pointOf seat x) (pointOf seat (committed seat e x))
   unfolding effectOf nexts
   taken-leads e h =
-      let t = decided-taken d p g (x .state .used) (x .memory) (length (x .journal)) e h in
+      let t = decided-taken d p seat (x .state) (x .memory) (length (x .journal)) e h in
       let op = t .operation in
-      let b = secondOperand (op .place) (op .width) (nextOrder d x) (g .float) (g .general) (g .status .selector) (x .memory) (nextAddress d x) in
+      let b = secondOperand (op .place) (op .width) (nextOrder d seat x) (g .float) (g .general) (g .status .selector) (x .memory) (nextAddress d seat x) in
       record {
-        here = record { operation = op; inside = decided-inside d p g (x .state .used) (x .memory) (length (x .journal)) e h; legal = t .legal };
-        onward = rw (may-jump (op .verb) (nextOrder d x)) (performed-leads (nextOrder d x) g e (op .verb) (op .width) (nextAddress d x) b (t .effect));
+        here = record { operation = op; inside = decided-inside d p seat (x .state) (x .memory) (length (x .journal)) e h; legal = t .legal };
+        onward =
+            rw (may-jump (op .verb) (nextOrder d seat x))
+            (subst (λ (r : Registers). List·Memᴰ (point (r .status .pointer) (r .status .selector)) (ways (nextOrder d seat x) g e (op .verb))) (sym (registers-after seat e x))
+            (performed-leads (nextOrder d seat x) g e (op .verb) (op .width) (nextAddress d seat x) b (t .effect)));
       }
 
-  pub along : stepped d p x .stop ≡ 0 → Leads d (pointOf x) (pointOf (stepped d p x .after))
+  pub along : stepped d p seat x .stop ≡ 0 → Leads d (pointOf seat x) (pointOf seat (stepped d p seat x .after))
   unfolding stepped
-  along z = cases (verdictOf d p x) refl z
+  along z = cases (verdictOf d p seat x) refl z
     where
       after : Answer Effect → Outcome Machine
-      after v = onward v x (λ e. committed e x) (λ y. outcome y 0 0)
+      after v = onward v x (λ e. committed seat e x) (λ y. outcome y 0 0)
 
-      cases : (v : Answer Effect) → verdictOf d p x ≡ v → after v .stop ≡ 0 → Leads d (pointOf x) (pointOf (after v .after))
-      cases (stops k) t z = absurd (stop-number d p x k t z)
+      cases : (v : Answer Effect) → verdictOf d p seat x ≡ v → after v .stop ≡ 0 → Leads d (pointOf seat x) (pointOf seat (after v .after))
+      cases (stops n) t z = absurd (stop-number d p seat x n t z)
       cases (gives e) t z = taken-leads e t
