@@ -26,20 +26,22 @@ typedef struct {
     uint32_t generals[2][8]; /* general registers: two sets of eight */
 } panel_registers;
 
+/* Two seats at one memory, deck, protect list and journal. */
 typedef struct {
-    panel_registers registers;
-    uint32_t used; /* records of the journal in use */
+    panel_registers seats[2];
+    uint32_t used; /* records of the journal in use, of both seats */
 } panel_state;
 
-/* What a run or a reading answers. */
+/* What a run, a back step or a reading answers. */
 typedef struct {
     uint32_t number; /* 0, or the number of the stop or refusal */
-    uint32_t value;  /* a run's steps taken; a reading's order count, or the line of its refusal */
+    uint32_t value;  /* a run's steps taken; the seat whose step a back step took back, 0 on its refusal; a reading's order
+                        count, or the line of its refusal */
 } panel_answer;
 
 /* What panel_why answers. Values past the count are 0. */
 typedef struct {
-    uint32_t number;    /* the stop that panel_step would answer if it is 1 to 11, else 18 */
+    uint32_t number;    /* the stop that panel_step would answer if it is 1 to 11 or 20, else 18 */
     uint32_t count;     /* how many values it names */
     uint32_t values[4]; /* 5: the cell, 0 code, 1 r1, 2 r2, 3 at; 6, 7: the address; 8 to 11: the operands' words */
 } panel_cause;
@@ -63,36 +65,40 @@ typedef struct {
 /* Makes the state fresh. Returns nothing. */
 void panel_fresh(panel_state *state);
 
-/* Takes one step. Returns 0, or the number of the stop (1 to 13); a stop leaves everything as it was.
+/* Takes one step of a seat, 0 or 1; any other is a 20, before all other checks. Returns 0, or the number of the stop (1 to
+ * 13, 20); a stop leaves everything as it was. A step changes no register, selector, condition code, mask or pointer of the
+ * other seat, but check 3 looks at both, whichever steps.
  * deck: four cells an order (code, r1, r2, at), deck_cells of them. Every general register that an order names, an index
- * too, is of the selected set, and the other set keeps its contents; SET (code 35) selects set r2, 0 or 1. The storage
+ * too, is of the seat's selected set, and the other set keeps its contents; SET (code 35) selects set r2, 0 or 1. The storage
  * operand of an order that has one is at `at`, and r2 from 1 to 7 adds the lower halfword of that general register to it;
  * the sum is not wrapped, so 65,536 and more are past memory's end (6). protect: one bit a halfword of memory, set if the
  * halfword is protected: address a is bit a % 8 of byte a / 8, the lowest bit being bit 0. protect_bytes is
  * memory_halfwords / 8 rounded up, and nothing else (2); bits past memory's end may be anything and change no answer.
- * journal: four words a record. */
-uint8_t panel_step(panel_state *state, const uint16_t *deck, size_t deck_cells, uint16_t *memory, size_t memory_halfwords,
-                   const uint8_t *protect, size_t protect_bytes, uint32_t *journal, size_t journal_words);
+ * journal: four words a record; a record names the seat that stepped. */
+uint8_t panel_step(panel_state *state, uint32_t seat, const uint16_t *deck, size_t deck_cells, uint16_t *memory,
+                   size_t memory_halfwords, const uint8_t *protect, size_t protect_bytes, uint32_t *journal,
+                   size_t journal_words);
 
-/* Steps until `limit` steps are taken or one is stopped. The number is 0, or the stop's (1 to 13); the value is the steps
- * taken. The stopped step leaves everything, earlier steps stand. */
-panel_answer panel_run(panel_state *state, const uint16_t *deck, size_t deck_cells, uint16_t *memory, size_t memory_halfwords,
-                       const uint8_t *protect, size_t protect_bytes, uint32_t *journal, size_t journal_words,
-                       uint32_t limit);
+/* Steps of a seat until `limit` steps are taken or one is stopped. The number is 0, or the stop's (1 to 13, 20); the value is
+ * the steps taken. The stopped step leaves everything, earlier steps stand. A limit of 0 still makes checks 20 and 1 to 3. */
+panel_answer panel_run(panel_state *state, uint32_t seat, const uint16_t *deck, size_t deck_cells, uint16_t *memory,
+                       size_t memory_halfwords, const uint8_t *protect, size_t protect_bytes, uint32_t *journal,
+                       size_t journal_words, uint32_t limit);
 
-/* Takes the last step back. The set that the record names is selected again, and a general register in it is of that set.
- * Returns 0, or 2, 3, 14 or 15; a refusal leaves everything as it was. */
-uint8_t panel_back(panel_state *state, uint16_t *memory, size_t memory_halfwords, const uint8_t *protect,
-                   size_t protect_bytes, uint32_t *journal, size_t journal_words);
+/* Takes the last step back, whichever seat's it was: the value is that seat, whose registers are put back. The set that the
+ * record names is selected again, and a general register in it is of that set. The number is 0, or 2, 3, 14 or 15; a refusal
+ * leaves everything as it was, and its value is 0. */
+panel_answer panel_back(panel_state *state, uint16_t *memory, size_t memory_halfwords, const uint8_t *protect,
+                        size_t protect_bytes, uint32_t *journal, size_t journal_words);
 
-/* Why panel_step would be stopped; it takes what a step takes, and writes nothing. The number is 1 to 11 as for a step:
+/* Why panel_step would be stopped; it takes what a step takes, and writes nothing. The number is 1 to 11 or 20 as for a step:
  * 5 with the first of code, r1, r2 and at that breaks the check, 6 with the lowest absent address of the storage operand,
  * 7 with its lowest protected one, 8 to 11 with the words of the operands that the order reads, the first operand's before
  * the second's: two for a short order, four for a long one, R r2's alone for CVFX. It is 18 where none of these stops the
  * step: it would be taken, or is a HALT (12), or the journal is full (13). */
-panel_cause panel_why(const panel_state *state, const uint16_t *deck, size_t deck_cells, const uint16_t *memory,
-                      size_t memory_halfwords, const uint8_t *protect, size_t protect_bytes, const uint32_t *journal,
-                      size_t journal_words);
+panel_cause panel_why(const panel_state *state, uint32_t seat, const uint16_t *deck, size_t deck_cells,
+                      const uint16_t *memory, size_t memory_halfwords, const uint8_t *protect, size_t protect_bytes,
+                      const uint32_t *journal, size_t journal_words);
 
 /* Reads a deck text into cells, memory and protect list. The number is 0 and the value the order count, or the number is
  * 16 or 17 and the value the line; a refused text writes nothing. A memory line sets or clears the bit of its address

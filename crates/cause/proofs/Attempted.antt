@@ -23,6 +23,7 @@ use Rattle.machine.specs.Check.{deckSized, buffersSized, stateFormed, present, 
 use Rattle.machine.specs.Decide.{heldStop, entryStop, judged, decided}
 use Rattle.machine.specs.Effect.{effectOf}
 use Rattle.machine.specs.Machine.{Machine, committed}
+use Rattle.machine.specs.Seats.{registersOf}
 use Rattle.machine.specs.Operand.{wordAt, floatOperand, storageOperand, secondOperand}
 use Rattle.machine.specs.Status.{conditionFormed, statusFormed}
 use Rattle.machine.specs.Step.{outcome, onward, verdictOf, stepped}
@@ -33,20 +34,20 @@ use Rattle.protection.proofs.Bits.{no-bits}
 use Rattle.machine.proofs.Checks.{present-fewer}
 use Rattle.machine.proofs.Rows.{legal-passed}
 use Rattle.cause.specs.Arithmetic.{stopIn, stopByRow, stopBy}
-use Rattle.cause.specs.Attempt.{halfwordsOf, attemptDeck, attemptProtect, attemptMachine, Accessible}
+use Rattle.cause.specs.Attempt.{halfwordsOf, attemptDeck, attemptProtect, attemptRegisters, attemptMachine, Accessible}
 use Rattle.cause.specs.Cause.{valuesOf}
 use Rattle.cause.specs.Theorems.{wordsIn}
 use Rattle.cause.specs.Words.{arithmeticOperands, wordsNamed}
 use Rattle.cause.proofs.Arithmetic.{effect-stop}
 
 -- the number of the verdict is that of the step
-pub step-number : (d : List ℕ) (p : ProtectList) (x : Machine) → stepped d p x .stop ≡ stopIn (verdictOf d p x)
+pub step-number : (d : List ℕ) (p : ProtectList) (k : ℕ) (x : Machine) → stepped d p k x .stop ≡ stopIn (verdictOf d p k x)
 unfolding stepped
-step-number d p x = cases (verdictOf d p x)
+step-number d p k x = cases (verdictOf d p k x)
   where
-    cases : (v : Answer Effect) → onward v x (λ e. committed e x) (λ y. outcome y 0 0) .stop ≡ stopIn v
+    cases : (v : Answer Effect) → onward v x (λ e. committed k e x) (λ y. outcome y 0 0) .stop ≡ stopIn v
     cases (gives e) = refl
-    cases (stops k) = refl
+    cases (stops n) = refl
 
 -- the order with its S at address 0
 abbrev moved : Order → Order
@@ -125,11 +126,11 @@ module _ (op : Operation) (o : Order) (g : Registers) (m : List ℕ) (a : ℕ) (
   x = attemptMachine (g .float) (g .status .mask) (secondOperand (op .place) (op .width) o (g .float) (g .general) (g .status .selector) m a)
 
   abbrev bare : Registers
-  bare = x .state .registers
+  bare = attemptRegisters (g .float) (g .status .mask)
 
   -- every check before the arithmetic passes
-  checks-pass : verdictOf (attemptDeck o) attemptProtect x ≡ effectOf op (moved o) bare (x .memory) 0
-  unfolding decided entryStop heldStop deckSized buffersSized covers stateFormed statusFormed conditionFormed judged
+  checks-pass : verdictOf (attemptDeck o) attemptProtect 0 x ≡ effectOf op (moved o) bare (x .memory) 0
+  unfolding registersOf decided entryStop heldStop deckSized buffersSized covers stateFormed statusFormed conditionFormed judged
   checks-pass =
       rw (
         le-leb (g .status .mask) 1 (h .mask),
@@ -147,10 +148,10 @@ module _ (op : Operation) (o : Order) (g : Registers) (m : List ℕ) (a : ℕ) (
       (row-passes (λ code op. readsNone (op .place) (op .verb)) rows-read (o .code) op (legal-row o op (h .legal) .0)))
 
   -- and what it reads are the same words
-  pub attempt-stop : stepped (attemptDeck o) attemptProtect x .stop ≡ stopIn (effectOf op o g m a)
+  pub attempt-stop : stepped (attemptDeck o) attemptProtect 0 x .stop ≡ stopIn (effectOf op o g m a)
   unfolding stopBy
   attempt-stop =
-      step-number (attemptDeck o) attemptProtect x
+      step-number (attemptDeck o) attemptProtect 0 x
       ∙ ap stopIn checks-pass
       ∙ effect-stop op (moved o) (legal-moved o op (h .legal)) bare (x .memory) 0
       ∙ rw (legal-moved o op (h .legal), h .legal) (ap (stopByRow (gives op) o (g .status .mask)) same-words)

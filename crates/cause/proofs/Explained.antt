@@ -1,40 +1,46 @@
 -- What is answered of a legal order, by the checks that it passes.
-use Prim.Native.Nat.{ℕ, _+_, _<_, _≤_}
+use Prim.Native.Nat.{ℕ, _+_, _/_, _<_, _≤_}
 use mathlib.Core.Path.{_≡_, refl, sym, ap, _∙_}
 use mathlib.Core.List.{List, [], _∷_}
 use mathlib.Core.Bool.{Bool, true, false, cond}
+use lib.Dec.{ltb}
 use lib.ListN.{length}
 use native.Mathlib.Omega.{arith}
 use borrow.Author.Tests.{lt-ltb, le-ltb}
 use mathlib.Core.Logic.{inl, inr}
 use types.Run.{OneOf}
 use denote.Enum.Declared.{tagOf}
-use Rattle.hexfloat.specs.Answer.{Answer, gives, stops}
+use Rattle.hexfloat.specs.Answer.{Answer, gives, stops, provided, checked}
 use Rattle.orders.specs.declared.order.Operation.{Operation}
 use Rattle.orders.specs.declared.order.Order.{Order}
-use Rattle.orders.specs.Order.{legalOf, spanOf, storedOf}
+use Rattle.orders.specs.Order.{legalOf, spanOf, storedOf, orderAt}
 use Rattle.protection.specs.Form.{ProtectList, isProtected}
 use Rattle.machine.specs.declared.fetching.Fetched.{Fetched}
 use Rattle.machine.specs.declared.fetching.Operands.{Operands}
 use Rattle.machine.specs.declared.state.Registers.{Registers}
+use Rattle.machine.specs.declared.state.State.{State}
+use Rattle.machine.specs.declared.state.Status.{Status}
 use Rattle.machine.specs.Operand.{addressIn}
 use Rattle.machine.specs.Check.{present}
-use Rattle.machine.specs.Decide.{accessed}
+use Rattle.machine.specs.Decide.{entryStop, entryIn, accessed, judgedAt, decided}
 use Rattle.machine.specs.Effect.{effectOf}
 use Rattle.machine.specs.Fetch.{operandsOf, operandsRead, saysFetched}
+use Rattle.machine.specs.Machine.{machine}
+use Rattle.machine.specs.Seats.{registersOf}
 use Rattle.machine.specs.Step.{stepped}
+use Rattle.machine.proofs.Checks.{entry-number}
 use Rattle.machine.proofs.fetching.Fetched as fetched-type
 use Rattle.hexfloat.proofs.Answers.{gives-inj, never}
 use Rattle.cause.specs.declared.naming.Cause.{Cause}
 use Rattle.cause.specs.declared.naming.Named.{Named}
 use Rattle.cause.specs.Arithmetic.{stopIn}
 use Rattle.cause.specs.Attempt.{attemptDeck, attemptProtect, attemptMachine, Accessible}
-use Rattle.cause.specs.Cause.{cause, causeNumber, namedFor, explained}
+use Rattle.cause.specs.Cause.{cause, causeNumber, namedFor, explained, whyOf}
 use Rattle.cause.specs.Storage.{lowest, isAbsent, lowestAbsent, lowestProtected}
 use Rattle.cause.specs.Words.{wordsRead}
 use Rattle.cause.proofs.Attempted.{attempt-stop}
 use Rattle.cause.proofs.Lowest.{any-lowest}
-use Rattle.cause.proofs.Numbers.{number-same, named-words, named-none}
+use Rattle.cause.proofs.Numbers.{number-same, named-words}
 use Rattle.cause.proofs.Reached.{stop-known, Own, own-by}
 
 module _ (op : Operation) (o : Order) (g : Registers) (m : List ℕ) (a : ℕ) (legal : legalOf o ≡ gives op) where
@@ -91,12 +97,12 @@ module _ (op : Operation) (o : Order) (g : Registers) (p : ProtectList) (m : Lis
 
     module _ (free : at + storedOf op ≤ lowest (isProtected p) at (storedOf op)) where
       abbrev number : ℕ
-      number = stepped (attemptDeck o) attemptProtect (attemptMachine (g .float) (g .status .mask) (q .second)) .stop
+      number = stepped (attemptDeck o) attemptProtect 0 (attemptMachine (g .float) (g .status .mask) (q .second)) .stop
 
       -- the order is tried
       tried : number ≡ stopIn (effectOf op o g m at)
       tried =
-          ap (λ (z : Operands). stepped (attemptDeck o) attemptProtect (attemptMachine (g .float) (g .status .mask) (z .second)) .stop) (given op o g m at (h .legal) q operands .1)
+          ap (λ (z : Operands). stepped (attemptDeck o) attemptProtect 0 (attemptMachine (g .float) (g .status .mask) (z .second)) .stop) (given op o g m at (h .legal) q operands .1)
           ∙ attempt-stop op o g m at h
 
       pub explain-taken : number ≡ 0 → answer ≡ cause 18 Named.Nothing
@@ -118,6 +124,27 @@ module _ (op : Operation) (o : Order) (g : Registers) (p : ProtectList) (m : Lis
             operands,
           )
 
--- a stop before the order is looked at names nothing
-pub explain-early : (k : ℕ) (o : Order) (g : Registers) (m : List ℕ) (a : ℕ) (p : ProtectList) → 1 ≤ k → k ≤ 4 → explained k o g m a p ≡ cause k Named.Nothing
-explain-early k o g m a p some few = rw (number-same k some (omega arith), named-none k o g m a p (λ l u. omega arith))
+-- 20 and 1 to 3 name nothing, whatever the order is
+pub explain-early :
+    (o : Order) (g : Registers) (m : List ℕ) (a : ℕ) (p : ProtectList) (seat deck : ℕ) (s other : Status) (used memory journal : ℕ) →
+    (let n = entryStop seat deck p s other used memory journal in (n ≡ 0 → ⊥) → explained n o g m a p ≡ cause n Named.Nothing)
+unfolding causeNumber namedFor
+explain-early o g m a p seat deck s other used memory journal =
+    entry-number p s other used memory journal (λ n. (n ≡ 0 → ⊥) → explained n o g m a p ≡ cause n Named.Nothing) seat deck
+    (λ z. absurd (z refl)) (λ h z. refl) (λ z. refl) (λ z. refl) (λ z. refl)
+
+-- what is answered of a seat k that has registers g
+abbrev answered : List ℕ → ProtectList → ℕ → State → List ℕ → List ℕ → Registers → Cause
+answered d p k s m j g =
+    let o = orderAt d (g .status .pointer) in
+    let v =
+    checked (entryIn k (length d) p s (length m) (length j))
+    (provided (ltb (g .status .pointer) (length d / 4)) 4 (judgedAt o g (s .used) p m (length j)))
+    in
+    explained (stopIn v) o g m (addressIn o g) p
+
+pub why-as :
+    (d : List ℕ) (p : ProtectList) (k : ℕ) (s : State) (m j : List ℕ) (g : Registers) (w : Cause) → g ≡ registersOf k s → w ≡ answered d p k s m j g →
+    w ≡ whyOf d p k (machine s m j)
+unfolding whyOf decided
+why-as d p k s m j g w h e = e ∙ ap (answered d p k s m j) h

@@ -1,13 +1,13 @@
 -- The number that is answered for a step's stop, and what it names.
 use Prim.Native.Nat.{ℕ, _≤_}
-use mathlib.Core.Path.{_≡_, refl, sym, _∙_}
+use mathlib.Core.Path.{_≡_, refl}
 use mathlib.Core.List.{List}
-use mathlib.Core.Logic.{_⊎_, inl, inr, ⊎-elim}
-use mathlib.Core.Bool.{Bool, true, false, cond}
+use mathlib.Core.Logic.{⊎-elim}
+use mathlib.Core.Bool.{Bool, true, false, cond, _||_}
 use lib.Dec.{eqb, leb}
 use native.Mathlib.Nat.{eq-zero-or-pos}
 use native.Mathlib.Omega.{arith}
-use borrow.Author.Tests.{eqb-false, leb-true, ne-eqb, le-leb}
+use borrow.Author.Tests.{eqb-true, eqb-false, leb-true, ne-eqb, le-leb}
 use Rattle.orders.specs.declared.order.Order.{Order}
 use Rattle.protection.specs.Form.{ProtectList}
 use Rattle.machine.specs.declared.state.Registers.{Registers}
@@ -21,22 +21,22 @@ pub number-same : (k : ℕ) → 1 ≤ k → k ≤ 11 → causeNumber k ≡ k
 unfolding causeNumber
 number-same k l u = rw (ne-eqb k 0 (λ z. omega arith), le-leb k 11 u)
 
--- and any other as 18
-number-or : (k : ℕ) → ((1 ≤ k) × (k ≤ 11)) ⊎ (causeNumber k ≡ 18)
+-- so is 20, and any other as 18
+number-by : (P : ℕ → Type 0) (k : ℕ) → (1 ≤ k → k ≤ 11 → P k) → (k ≡ 20 → P k) → P 18 → P (causeNumber k)
 unfolding causeNumber
-number-or k = cases (eqb k 0) (leb k 11) refl refl
+number-by P k early seat other = cases (eqb k 0) (leb k 11) (eqb k 20) refl refl refl
   where
-    cases : (x y : Bool) → eqb k 0 ≡ x → leb k 11 ≡ y → ((1 ≤ k) × (k ≤ 11)) ⊎ (cond x 18 (cond y k 18) ≡ 18)
-    cases true y a b = inr refl
-    cases false true a b = let some = eqb-false k 0 a in inl (⊎-elim (λ z. absurd (some z)) (λ z. z) (eq-zero-or-pos k), leb-true k 11 b)
-    cases false false a b = inr refl
+    cases : (x y z : Bool) → eqb k 0 ≡ x → leb k 11 ≡ y → eqb k 20 ≡ z → P (cond x 18 (cond (y || z) k 18))
+    cases true y z a b c = other
+    cases false true z a b c = let some = eqb-false k 0 a in early (⊎-elim (λ z. absurd (some z)) (λ z. z) (eq-zero-or-pos k)) (leb-true k 11 b)
+    cases false false true a b c = seat (eqb-true k 20 c)
+    cases false false false a b c = other
 
 pub number-is : (k n : ℕ) → causeNumber k ≡ n → n ≤ 11 → (k ≡ n) × (1 ≤ k)
-number-is k n h few = ⊎-elim (λ z. (sym (number-same k (z .0) (z .1)) ∙ h, z .0)) (λ z. absurd (omega (arith, z))) (number-or k)
+number-is k n h few = number-by (λ i. i ≡ n → (k ≡ n) × (1 ≤ k)) k (λ l u e. (e, l)) (λ s e. absurd (omega arith)) (λ e. absurd (omega arith)) h
 
-pub number-listed : (k : ℕ) → (causeNumber k ≡ 18 → ⊥) → (1 ≤ causeNumber k) × (causeNumber k ≤ 11)
-number-listed k h =
-    ⊎-elim (λ z. let same = number-same k (z .0) (z .1) in (omega (arith, z .0, same), omega (arith, z .1, same))) (λ z. absurd (h z)) (number-or k)
+pub number-listed : (k : ℕ) → (k ≡ 20 → ⊥) → (causeNumber k ≡ 18 → ⊥) → (1 ≤ causeNumber k) × (causeNumber k ≤ 11)
+number-listed k there = number-by (λ i. (i ≡ 18 → ⊥) → (1 ≤ i) × (i ≤ 11)) k (λ l u z. (l, u)) (λ s z. absurd (there s)) (λ z. absurd (z refl))
 
 module _ (k : ℕ) (o : Order) (g : Registers) (m : List ℕ) (a : ℕ) (p : ProtectList) where
   -- 8 to 11 name words

@@ -13,9 +13,12 @@ use Rattle.orders.specs.Order.{spanOf, storedOf}
 use Rattle.protection.specs.Form.{ProtectList, covers, isProtected}
 use Rattle.protection.specs.Theorems.{Alike}
 use Rattle.machine.specs.declared.state.Registers.{Registers}
+use Rattle.machine.specs.declared.state.State.{State}
 use Rattle.machine.specs.declared.verdict.Effect.{Effect}
-use Rattle.machine.specs.Decide.{entryStop, judgedAt, decided}
+use Rattle.machine.specs.Decide.{judgedAt, pointerOf, decided}
 use Rattle.machine.specs.Machine.{Machine}
+use Rattle.machine.specs.Run.{entryOf}
+use Rattle.machine.specs.Seats.{registersOf}
 use Rattle.machine.specs.Step.{nextOrder, nextAddress, verdictOf}
 use Rattle.machine.proofs.Alike.{decided-alike}
 use Rattle.machine.proofs.Checks.{held, entered, entry-number, reach, present-fewer}
@@ -31,13 +34,13 @@ unfolding lowest
 lowest-alike f g zero a h = refl
 lowest-alike f g (suc n) a h = rw (h a (omega arith) (omega arith), lowest-alike f g n (a + 1) (λ b l u. h b (omega arith) (omega arith)))
 
--- a stop that is none of 1 to 3 says that checks 1 to 3 pass
-past-entry : (k : ℕ) (rest : Answer Effect) → k ≤ 3 → 3 < stopIn (checked k rest) → k ≡ 0
-past-entry k rest few h = cases (eqb k 0) refl h
+-- a stop that the first checks do not give says that they pass
+past-entry : (n stop : ℕ) (rest : Answer Effect) → (n ≡ stop → ⊥) → stopIn (checked n rest) ≡ stop → n ≡ 0
+past-entry n stop rest other h = cases (eqb n 0) refl h
   where
-    cases : (b : Bool) → eqb k 0 ≡ b → 3 < stopIn (provided b k rest) → k ≡ 0
-    cases true e z = eqb-true k 0 e
-    cases false e z = absurd (omega (arith, z))
+    cases : (b : Bool) → eqb n 0 ≡ b → stopIn (provided b n rest) ≡ stop → n ≡ 0
+    cases true e z = eqb-true n 0 e
+    cases false e z = absurd (other z)
 
 -- only 7 looks at the protect list
 module _ (o : Order) (g : Registers) (m : List ℕ) (a : ℕ) (p q : ProtectList) where
@@ -49,42 +52,47 @@ module _ (o : Order) (g : Registers) (m : List ℕ) (a : ℕ) (p q : ProtectList
       cases true e = rw (h (eqb-true k 7 e))
       cases false e = rw e
 
-module _ (d : List ℕ) (p q : ProtectList) (x : Machine) (same : Alike (length (x .memory)) p q) where
+module _ (d : List ℕ) (p q : ProtectList) (k : ℕ) (x : Machine) (same : Alike (length (x .memory)) p q) where
+  abbrev s : State
+  s = x .state
+
   abbrev o : Order
-  o = nextOrder d x
+  o = nextOrder d k x
 
   abbrev g : Registers
-  g = x .state .registers
+  g = registersOf k s
 
   abbrev a : ℕ
-  a = nextAddress d x
+  a = nextAddress d k x
 
-  abbrev k : ℕ
-  k = stopIn (verdictOf d p x)
+  abbrev stop : ℕ
+  stop = stopIn (verdictOf d p k x)
 
   -- where check 7 refuses, checks 2 and 6 have passed
-  covered : k ≡ 7 → covers p (length (x .memory)) ≡ true
+  covered : stop ≡ 7 → covers p (length (x .memory)) ≡ true
   unfolding decided
   covered e =
-      let first = entryStop (length d) p (g .status) (x .state .used) (length (x .memory)) (length (x .journal)) in
-      let few = entry-number p (g .status) (x .state .used) (length (x .memory)) (length (x .journal)) (length d) in
-      let rest = provided (ltb (g .status .pointer) (length d / 4)) 4 (judgedAt o g (x .state .used) p (x .memory) (length (x .journal))) in
-      let zero : first ≡ 0 = past-entry first rest few (omega (arith, e)) in
-      held p (g .status) (x .state .used) (length (x .memory)) (length (x .journal))
-      (entered p (g .status) (x .state .used) (length (x .memory)) (length (x .journal)) (length d) zero .1) .cover
+      let other =
+      entry-number p (s .seat0 .status) (s .seat1 .status) (s .used) (length (x .memory)) (length (x .journal)) (λ n. n ≡ 7 → ⊥) k (length d)
+      (λ z. omega arith) (λ h z. omega arith) (λ z. omega arith) (λ z. omega arith) (λ z. omega arith)
+      in
+      let rest = provided (ltb (pointerOf k s) (length d / 4)) 4 (judgedAt o g (s .used) p (x .memory) (length (x .journal))) in
+      let zero : entryOf d p k x ≡ 0 = past-entry (entryOf d p k x) 7 rest other e in
+      held p (s .seat0 .status) (s .seat1 .status) (s .used) (length (x .memory)) (length (x .journal))
+      (entered p (s .seat0 .status) (s .seat1 .status) (s .used) (length (x .memory)) (length (x .journal)) k (length d) zero .passes) .cover
 
-  protected-alike : k ≡ 7 → lowestProtected o a p ≡ lowestProtected o a q
+  protected-alike : stop ≡ 7 → lowestProtected o a p ≡ lowestProtected o a q
   unfolding lowestProtected
   protected-alike e =
-      let known = stop-known (Known o g p (x .memory) a) (verdictOf d p x) (decided-known d p g (x .state .used) (x .memory) (length (x .journal))) (omega (arith, e)) .protected e in
+      let known = stop-known (Known o g p (x .memory) a) (verdictOf d p k x) (decided-known d p k s (x .memory) (length (x .journal))) (omega (arith, e)) .protected e in
       let op = known .0 in
       let there = present-fewer (storedOf op) (spanOf op) a (length (x .memory)) (legal-passed o op (known .1) .stored) (known .2) in
       rw (known .1)
       (lowest-alike (isProtected p) (isProtected q) (storedOf op) a
       (λ b l u. same .bits-alike (covered e) b (omega (arith, reach (storedOf op) a (length (x .memory)) there (omega arith)))))
 
-  pub same-cause : whyOf d p x ≡ whyOf d q x
+  pub same-cause : whyOf d p k x ≡ whyOf d q k x
   unfolding whyOf
   same-cause =
-      ap (cause (causeNumber k)) (named-alike o g (x .memory) a p q k protected-alike)
-      ∙ ap (λ (v : Answer Effect). explained (stopIn v) o g (x .memory) a q) (decided-alike d p q g (x .state .used) (x .memory) (length (x .journal)) same)
+      ap (cause (causeNumber stop)) (named-alike o g (x .memory) a p q stop protected-alike)
+      ∙ ap (λ (v : Answer Effect). explained (stopIn v) o g (x .memory) a q) (decided-alike d p q k s (x .memory) (length (x .journal)) same)

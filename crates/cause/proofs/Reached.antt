@@ -13,10 +13,12 @@ use Rattle.orders.specs.declared.order.Order.{Order}
 use Rattle.orders.specs.Order.{legalOf, spanOf, storedOf, isHalt, orderAt}
 use Rattle.protection.specs.Form.{ProtectList}
 use Rattle.machine.specs.declared.state.Registers.{Registers}
+use Rattle.machine.specs.declared.state.State.{State}
 use Rattle.machine.specs.Operand.{addressIn}
 use Rattle.machine.specs.Check.{present, anyProtected}
-use Rattle.machine.specs.Decide.{entryStop, judged, decided}
+use Rattle.machine.specs.Decide.{entryIn, judged, pointerOf, decided}
 use Rattle.machine.specs.Effect.{effectOf}
+use Rattle.machine.specs.Seats.{registersOf}
 use Rattle.hexfloat.proofs.Answers.{never, stops-inj, StopsBy, checked-by}
 use Rattle.machine.proofs.Checks.{entry-number}
 use Rattle.machine.proofs.Refusals.{effect-by, legal-by}
@@ -66,7 +68,7 @@ pub record Known (o : Order) (g : Registers) (p : ProtectList) (m : List ℕ) (a
       (op : Operation) × (legalOf o ≡ gives op) × (present (spanOf op) a (length m) ≡ true) × (effectOf op o g m a ≡ stops k)
 
 module _ (o : Order) (g : Registers) (p : ProtectList) (m : List ℕ) (a : ℕ) where
-  -- nothing is said of a stop before check 5, nor of 12 and 13
+  -- nothing is said of a stop before check 5, 20 among them, nor of 12 and 13
   outside : (k : ℕ) → (5 ≤ k → k ≤ 11 → ⊥) → Known o g p m a k
   outside k h = record {
     illegal = λ e. absurd (h (omega arith) (omega arith));
@@ -123,12 +125,20 @@ module _ (o : Order) (g : Registers) (p : ProtectList) (m : List ℕ) (a : ℕ) 
       let is : k ≡ 5 = stops-at (λ (n : ℕ). n ≡ 5) (legalOf o) k h (legal-by (λ (n : ℕ). n ≡ 5) refl o) in
       subst (Known o g p m a) (sym is) (five (h ∙ ap stops is))
 
-pub decided-known : (d : List ℕ) (p : ProtectList) (g : Registers) (used : ℕ) (m : List ℕ) (journal : ℕ) → StopsBy (Known (orderAt d (g .status .pointer)) g p m (addressIn (orderAt d (g .status .pointer)) g)) (decided d p g used m journal)
+  entry-known : (k deck : ℕ) (s : State) (memory journal : ℕ) → Known o g p m a (entryIn k deck p s memory journal)
+  entry-known k deck s memory journal =
+      entry-number p (s .seat0 .status) (s .seat1 .status) (s .used) memory journal (Known o g p m a) k deck
+      (outside 0 (λ l u. omega arith)) (λ h. outside 20 (λ l u. omega arith))
+      (outside 1 (λ l u. omega arith)) (outside 2 (λ l u. omega arith)) (outside 3 (λ l u. omega arith))
+
+pub decided-known :
+    (d : List ℕ) (p : ProtectList) (k : ℕ) (s : State) (m : List ℕ) (journal : ℕ) →
+    (let o = orderAt d (pointerOf k s) in StopsBy (Known o (registersOf k s) p m (addressIn o (registersOf k s))) (decided d p k s m journal))
 unfolding decided
-decided-known d p g used m journal =
-    let o = orderAt d (g .status .pointer) in
+decided-known d p k s m journal =
+    let g = registersOf k s in
+    let o = orderAt d (pointerOf k s) in
     let a = addressIn o g in
-    let k = entryStop (length d) p (g .status) used (length m) journal in
-    checked-by (Known o g p m a) k _ (λ z. outside o g p m a k (λ l u. omega (arith, entry-number p (g .status) used (length m) journal (length d))))
-    (provided-known (Known o g p m a) (ltb (g .status .pointer) (length d / 4)) 4 _ (λ z. outside o g p m a 4 (λ l u. omega arith)) (λ z.
-    then-known (Known o g p m a) (legalOf o) (judged o g used p m a journal) (legal-known o g p m a) (λ op legal. judged-known o g p m a op legal used journal)))
+    checked-by (Known o g p m a) (entryIn k (length d) p s (length m) journal) _ (λ z. entry-known o g p m a k (length d) s (length m) journal)
+    (provided-known (Known o g p m a) (ltb (pointerOf k s) (length d / 4)) 4 _ (λ z. outside o g p m a 4 (λ l u. omega arith)) (λ z.
+    then-known (Known o g p m a) (legalOf o) (judged o g (s .used) p m a journal) (legal-known o g p m a) (λ op legal. judged-known o g p m a op legal (s .used) journal)))

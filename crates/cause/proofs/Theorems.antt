@@ -1,11 +1,11 @@
 -- What is named is a true cause.
-use Prim.Native.Nat.{ℕ, _≤_}
+use Prim.Native.Nat.{ℕ, _<_, _≤_}
 use mathlib.Core.Path.{_≡_, refl, sym, ap, _∙_}
 use mathlib.Core.List.{List}
 use mathlib.Core.Bool.{true, false}
 use lib.ListN.{length}
 use native.Mathlib.Omega.{arith}
-use borrow.Author.Tests.{ltb-true}
+use borrow.Author.Tests.{ltb-true, lt-leb}
 use Rattle.hexfloat.specs.Answer.{gives, stops}
 use Rattle.orders.specs.declared.order.Operation.{Operation}
 use Rattle.orders.specs.declared.order.Order.{Order}
@@ -13,10 +13,13 @@ use Rattle.orders.specs.Order.{legalOf, spanOf, storedOf}
 use Rattle.protection.specs.Form.{ProtectList, isProtected}
 use Rattle.machine.specs.declared.state.Registers.{Registers}
 use Rattle.machine.specs.Check.{present, anyProtected}
+use Rattle.machine.specs.Decide.{entryStop, decided}
 use Rattle.machine.specs.Fetch.{operandsRead}
 use Rattle.machine.specs.Machine.{Machine}
 use Rattle.machine.specs.Effect.{effectOf}
+use Rattle.machine.specs.Seats.{registersOf}
 use Rattle.machine.specs.Step.{nextOrder, nextAddress, verdictOf}
+use Rattle.machine.proofs.Refusals.{decided-by}
 use Rattle.cause.specs.declared.naming.Named.{Named}
 use Rattle.cause.specs.Arithmetic.{stopIn, stopBy}
 use Rattle.cause.specs.Cause.{valuesOf, causeNumber, namedFor, whyOf}
@@ -79,35 +82,52 @@ module _ (o : Order) (g : Registers) (p : ProtectList) (m : List ℕ) (a : ℕ) 
         ∙ sym (effect-stop op o legal g m a)
         ∙ ap stopIn h
 
-true-cause : (d : List ℕ) (p : ProtectList) (x : Machine) → TrueCause d p x (whyOf d p x)
-unfolding whyOf
-true-cause d p x =
-    let g = x .state .registers in
-    let o = nextOrder d x in
-    let m = x .memory in
-    let a = nextAddress d x in
-    let k = stopIn (verdictOf d p x) in
-    let known = stop-known (Known o g p m a) (verdictOf d p x) (decided-known d p g (x .state .used) m (length (x .journal))) in
-    record {
-      number = ap causeNumber (sym (step-number d p x));
-      listed = number-listed k;
-      nothing = λ h. named-none k o g m a p (λ l u. let same = number-same k (omega arith) u in h (omega (arith, same)) (omega (arith, same)));
-      cell = λ h. let q = number-is k 5 h (omega arith) in cell-named o g p m a k (q .0) (known (q .1) .illegal (q .0));
-      absent = λ h.
-          let q = number-is k 6 h (omega arith) in
-          let z = known (q .1) .absent (q .0) in
-          absent-named o g p m a (z .0) (z .1) k (q .0) (z .2);
-      protected = λ h.
-          let q = number-is k 7 h (omega arith) in
-          let z = known (q .1) .protected (q .0) in
-          protected-named o g p m a (z .0) (z .1) k (q .0) (z .3);
-      words = λ l u.
-          let q = number-is k (causeNumber k) refl u in
-          let low : 8 ≤ k = omega (arith, q .0) in
-          let high : k ≤ 11 = omega (arith, q .0) in
-          let z = known (q .1) .arithmetic low high in
-          words-stop o g p m a (z .0) (z .1) k low high (z .2) (z .3) ∙ q .0;
-    }
+module _ (d : List ℕ) (p : ProtectList) (k : ℕ) (x : Machine) where
+  abbrev stop : ℕ
+  stop = stopIn (verdictOf d p k x)
+
+  -- the step of a seat that there is stops by none above 13, and that of another by 20
+  seat-there : k ≤ 1 → stop ≡ 20 → ⊥
+  seat-there there e =
+      let few =
+      stop-known (λ n. n ≤ 13) (verdictOf d p k x)
+      (decided-by (λ n. n ≤ 13) (λ n l u. u) d p k (x .state) (x .memory) (length (x .journal)) (λ h. omega arith)) (omega (arith, e))
+      in
+      omega (arith, e, few)
+
+  seat-absent : 1 < k → causeNumber stop ≡ 20
+  unfolding decided entryStop causeNumber
+  seat-absent above = rw (lt-leb k 1 above)
+
+  true-cause : TrueCause d p k x (whyOf d p k x)
+  unfolding whyOf
+  true-cause =
+      let g = registersOf k (x .state) in
+      let o = nextOrder d k x in
+      let m = x .memory in
+      let a = nextAddress d k x in
+      let known = stop-known (Known o g p m a) (verdictOf d p k x) (decided-known d p k (x .state) m (length (x .journal))) in
+      record {
+        number = ap causeNumber (sym (step-number d p k x));
+        listed = λ there. number-listed stop (seat-there there);
+        seat = seat-absent;
+        nothing = λ h. named-none stop o g m a p (λ l u. let same = number-same stop (omega arith) u in h (omega (arith, same)) (omega (arith, same)));
+        cell = λ h. let q = number-is stop 5 h (omega arith) in cell-named o g p m a stop (q .0) (known (q .1) .illegal (q .0));
+        absent = λ h.
+            let q = number-is stop 6 h (omega arith) in
+            let z = known (q .1) .absent (q .0) in
+            absent-named o g p m a (z .0) (z .1) stop (q .0) (z .2);
+        protected = λ h.
+            let q = number-is stop 7 h (omega arith) in
+            let z = known (q .1) .protected (q .0) in
+            protected-named o g p m a (z .0) (z .1) stop (q .0) (z .3);
+        words = λ l u.
+            let q = number-is stop (causeNumber stop) refl u in
+            let low : 8 ≤ stop = omega (arith, q .0) in
+            let high : stop ≤ 11 = omega (arith, q .0) in
+            let z = known (q .1) .arithmetic low high in
+            words-stop o g p m a (z .0) (z .1) stop low high (z .2) (z .3) ∙ q .0;
+      }
 
 pub theorems : Theorems
 theorems = record { true-cause = true-cause; same-stop = same-stop; same-cause = same-cause; unindexed = unindexed }

@@ -25,6 +25,7 @@ use Rattle.machine.specs.Check.{present}
 use Rattle.machine.specs.Fetch.{operandsRead}
 use Rattle.machine.specs.Machine.{Machine}
 use Rattle.machine.specs.Operand.{floatOperand, secondOperand, addressIn}
+use Rattle.machine.specs.Seats.{registersOf}
 use Rattle.machine.specs.Step.{nextOrder, nextAddress, verdictOf}
 use Rattle.orders.proofs.Addresses.{address-plain}
 use Rattle.machine.proofs.Rows.{legal-passed}
@@ -120,11 +121,11 @@ module _ (o : Order) (none : NoIndex o) where
         cases true y z w e f h = ap Named.Cell cells-unindexed
         cases false y z w e f h = rest y z w e f h
 
-pub unindexed : (d : List ℕ) (p : ProtectList) (x : Machine) → NoIndex (nextOrder d x) → whyOf d p x ≡ unindexedWhy d p x
+pub unindexed : (d : List ℕ) (p : ProtectList) (k : ℕ) (x : Machine) → NoIndex (nextOrder d k x) → whyOf d p k x ≡ unindexedWhy d p k x
 unfolding whyOf unindexedWhy
-unindexed d p x none =
-    let g = x .state .registers in
-    let o = nextOrder d x in
-    let v = verdictOf d p x in
-    ap (cause (causeNumber (stopIn v))) (named-unindexed o none g p (x .memory) (stopIn v) (stop-known (Known o g p (x .memory) (nextAddress d x)) v (decided-known d p g (x .state .used) (x .memory) (length (x .journal)))))
-    ∙ ap (λ (y : Answer Effect). unindexedExplained (stopIn y) o g (x .memory) p) (decided-unindexed d p g (x .state .used) (x .memory) (length (x .journal)) (λ l. none))
+unindexed d p k x none =
+    let g = registersOf k (x .state) in
+    let o = nextOrder d k x in
+    let v = verdictOf d p k x in
+    ap (cause (causeNumber (stopIn v))) (named-unindexed o none g p (x .memory) (stopIn v) (stop-known (Known o g p (x .memory) (nextAddress d k x)) v (decided-known d p k (x .state) (x .memory) (length (x .journal)))))
+    ∙ ap (λ (y : Answer Effect). unindexedExplained (stopIn y) o g (x .memory) p) (decided-unindexed d p k (x .state) (x .memory) (length (x .journal)) (λ l. none))

@@ -12,7 +12,8 @@ use Rattle.orders.specs.Order.{legalOf, isHalt}
 use Rattle.protection.specs.Form.{ProtectList}
 use Rattle.protection.specs.Bits.{bitwise}
 use Rattle.machine.specs.declared.state.Registers.{Registers}
-use Rattle.machine.specs.Machine.{Machine, machine, registers, state}
+use Rattle.machine.specs.Machine.{Machine, machine, registers}
+use Rattle.machine.specs.Seats.{seated}
 use Rattle.machine.specs.Status.{status}
 
 -- two words as storage has them
@@ -27,9 +28,13 @@ attemptDeck o = o .code ∷ o .r1 ∷ o .r2 ∷ 0 ∷ []
 abbrev pub attemptProtect : ProtectList
 attemptProtect = bitwise (replicate 1 0)
 
--- the second operand in storage, room for one record, and no step taken yet
+-- the registers of either seat: check 3 looks at both (document 02, Job 12)
+abbrev pub attemptRegisters : List ℕ → ℕ → Registers
+attemptRegisters f mask = registers f (replicate 16 0) (status 0 mask 0 0)
+
+-- the second operand in storage, room for one record, and no step taken yet; seat 0 tries the order
 abbrev pub attemptMachine : List ℕ → ℕ → Words → Machine
-attemptMachine f mask b = machine (state (registers f (replicate 16 0) (status 0 mask 0 0)) 0) (halfwordsOf b) (replicate 4 0)
+attemptMachine f mask b = machine (seated 0 (attemptRegisters f mask) (attemptRegisters f mask) 0) (halfwordsOf b) (replicate 4 0)
 
 -- what the checks leave known where an order's storage is looked at
 pub record Accessible (op : Operation) (o : Order) (g : Registers) : Type 0 where

@@ -1,5 +1,6 @@
--- What is named is a true cause (document 02, Job 5), for every deck d, protect list p in any form and machine x. The proofs are in proofs/Theorems.antt.
-use Prim.Native.Nat.{ℕ, _≤_}
+-- What is named is a true cause (document 02, Job 5), for every deck d, protect list p in any form, seat k and machine x. The proofs are in
+-- proofs/Theorems.antt.
+use Prim.Native.Nat.{ℕ, _<_, _≤_}
 use mathlib.Core.Path.{_≡_}
 use mathlib.Core.List.{List}
 use mathlib.Core.Bool.{Bool}
@@ -15,6 +16,7 @@ use Rattle.machine.specs.declared.state.Registers.{Registers}
 use Rattle.machine.specs.Effect.{effectOf}
 use Rattle.machine.specs.Machine.{Machine}
 use Rattle.machine.specs.Operand.{floatOperand, secondOperand}
+use Rattle.machine.specs.Seats.{registersOf}
 use Rattle.machine.specs.Step.{nextOrder, nextAddress, stepped}
 use Rattle.cause.specs.declared.cell.Cell.{Cell}
 use Rattle.cause.specs.declared.naming.Cause.{Cause}
@@ -40,15 +42,17 @@ pub record NamesAddress (refuses : ℕ → Bool) (halfwords : Operation → ℕ)
   pub named : n ≡ Named.Address address
   pub lowest : IsLowest refuses a (halfwords operation) address
 
--- the number is the step's where that is 1 to 11, else 18; what stands beside it is a cause of it; and beside 1 to 4 and 18 there is nothing
-pub record TrueCause (d : List ℕ) (p : ProtectList) (x : Machine) (w : Cause) : Type 0 where
-  pub number : w .number ≡ causeNumber (stepped d p x .stop)
-  pub listed : (w .number ≡ 18 → ⊥) → (1 ≤ w .number) × (w .number ≤ 11)
+-- the number is the step's where that is 20 or 1 to 11, else 18, and 20 exactly for a seat above 1 (document 02, Job 12); what stands beside it is a cause of
+-- it; and beside 20, 1 to 4 and 18 there is nothing
+pub record TrueCause (d : List ℕ) (p : ProtectList) (k : ℕ) (x : Machine) (w : Cause) : Type 0 where
+  pub number : w .number ≡ causeNumber (stepped d p k x .stop)
+  pub listed : k ≤ 1 → (w .number ≡ 18 → ⊥) → (1 ≤ w .number) × (w .number ≤ 11)
+  pub seat : 1 < k → w .number ≡ 20
   pub nothing : (5 ≤ w .number → w .number ≤ 11 → ⊥) → w .named ≡ Named.Nothing
-  pub cell : w .number ≡ 5 → NamesCell (nextOrder d x) (w .named)
-  pub absent : w .number ≡ 6 → NamesAddress (isAbsent (length (x .memory))) spanOf (nextOrder d x) (nextAddress d x) (w .named)
-  pub protected : w .number ≡ 7 → NamesAddress (isProtected p) storedOf (nextOrder d x) (nextAddress d x) (w .named)
-  pub words : 8 ≤ w .number → w .number ≤ 11 → stopBy (nextOrder d x) (x .state .registers .status .mask) (valuesOf (w .named)) ≡ w .number
+  pub cell : w .number ≡ 5 → NamesCell (nextOrder d k x) (w .named)
+  pub absent : w .number ≡ 6 → NamesAddress (isAbsent (length (x .memory))) spanOf (nextOrder d k x) (nextAddress d k x) (w .named)
+  pub protected : w .number ≡ 7 → NamesAddress (isProtected p) storedOf (nextOrder d k x) (nextAddress d k x) (w .named)
+  pub words : 8 ≤ w .number → w .number ≤ 11 → stopBy (nextOrder d k x) (registersOf k (x .state) .status .mask) (valuesOf (w .named)) ≡ w .number
 
 -- the words that a legal order's arithmetic reads in a machine with these registers and this memory, where S is at a
 abbrev pub wordsIn : Operation → Order → Registers → List ℕ → ℕ → List ℕ
@@ -61,9 +65,9 @@ SameStop op o =
     (g h : Registers) (m n : List ℕ) (a b : ℕ) → wordsIn op o g m a ≡ wordsIn op o h n b → g .status .mask ≡ h .status .mask → stopIn (effectOf op o g m a) ≡ stopIn (effectOf op o h n b)
 
 pub record Theorems : Type 0 where
-  pub true-cause : (d : List ℕ) (p : ProtectList) (x : Machine) → TrueCause d p x (whyOf d p x)
+  pub true-cause : (d : List ℕ) (p : ProtectList) (k : ℕ) (x : Machine) → TrueCause d p k x (whyOf d p k x)
   pub same-stop : (op : Operation) (o : Order) → legalOf o ≡ gives op → SameStop op o
   -- over protect lists that say the same of memory's halfwords the answer is the same (document 02, Job 6)
-  pub same-cause : (d : List ℕ) (p q : ProtectList) (x : Machine) → Alike (length (x .memory)) p q → whyOf d p x ≡ whyOf d q x
+  pub same-cause : (d : List ℕ) (p q : ProtectList) (k : ℕ) (x : Machine) → Alike (length (x .memory)) p q → whyOf d p k x ≡ whyOf d q k x
   -- where r2 is 0 in a next order with a storage operand, the answer is what it was before such orders were indexed (document 02, Job 7)
-  pub unindexed : (d : List ℕ) (p : ProtectList) (x : Machine) → NoIndex (nextOrder d x) → whyOf d p x ≡ unindexedWhy d p x
+  pub unindexed : (d : List ℕ) (p : ProtectList) (k : ℕ) (x : Machine) → NoIndex (nextOrder d k x) → whyOf d p k x ≡ unindexedWhy d p k x

@@ -8,6 +8,7 @@ use Rattle.orders.specs.Unindexed.{unindexedOperation}
 use Rattle.protection.specs.Form.{ProtectList}
 use Rattle.machine.specs.declared.state.Registers.{Registers}
 use Rattle.machine.specs.Machine.{Machine}
+use Rattle.machine.specs.Seats.{registersOf}
 use Rattle.machine.specs.Unindexed.{unindexedVerdict}
 use Rattle.machine.specs.Step.{nextOrder}
 use Rattle.cause.specs.declared.naming.Cause.{Cause}
@@ -22,5 +23,5 @@ unindexedNamed k o g m p = cond (eqb k 5) (Named.Cell (firstCell (breaksRow (uni
 abbrev pub unindexedExplained : ℕ → Order → Registers → List ℕ → ProtectList → Cause
 unindexedExplained k o g m p = cause (causeNumber k) (unindexedNamed k o g m p)
 
-unfoldable pub unindexedWhy : List ℕ → ProtectList → Machine → Cause
-unindexedWhy d p x = unindexedExplained (stopIn (unindexedVerdict d p x)) (nextOrder d x) (x .state .registers) (x .memory) p
+unfoldable pub unindexedWhy : List ℕ → ProtectList → ℕ → Machine → Cause
+unindexedWhy d p k x = unindexedExplained (stopIn (unindexedVerdict d p k x)) (nextOrder d k x) (registersOf k (x .state)) (x .memory) p

@@ -23,7 +23,7 @@ fn halfwords(b: Words) -> [u16; 4]
 
 // The number that the step answers.
 pub fn attempt(o: Order, second: Words, float: [u32; 8], mask: u32) -> u8
-    ensures { λ r. ⌜ r ≡ stepped (attemptDeck o) attemptProtect (attemptMachine float mask second) .stop ⌝ }
+    ensures { λ r. ⌜ r ≡ stepped (attemptDeck o) attemptProtect 0 (attemptMachine float mask second) .stop ⌝ }
 {
     let general = [0; 16]; // no index
     let status = Status {
@@ -37,12 +37,16 @@ pub fn attempt(o: Order, second: Words, float: [u32; 8], mask: u32) -> u8
         general,
         status,
     };
-    let state = State { registers, used: 0 };
+    let state = State {
+        seat0: registers,
+        seat1: registers, // check 3 looks at both seats
+        used: 0,
+    };
     let deck = [o.code, o.r1, o.r2, 0];
     let mut memory = halfwords(second);
     let protect = [0; 1];
     let mut journal = [0; 4];
-    let stepped = machine::step(state, &deck, &mut memory, &protect, &mut journal);
+    let stepped = machine::step(state, 0, &deck, &mut memory, &protect, &mut journal);
     let stop = stepped.stop;
     machine::number(stop)
 }

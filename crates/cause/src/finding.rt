@@ -101,14 +101,23 @@ fn examine(
     access(op, o, registers, memory, protect)
 }
 
-// Why the next step is stopped. Takes what a step takes, and writes nothing.
-pub fn why(s: State, deck: &[u16], memory: &[u16], protect: &[u8], journal: &[u32]) -> Cause
-    ensures { λ r. ⌜ r ≡ whyOf (now (deck .entry)) (bitwise (now (protect .entry))) (machine s (now (memory .entry)) (now (journal .entry))) ⌝ }
+// Why the next step of a seat is stopped. Takes what a step takes, and writes nothing.
+pub fn why(
+    s: State,
+    seat: u32,
+    deck: &[u16],
+    memory: &[u16],
+    protect: &[u8],
+    journal: &[u32],
+) -> Cause
+    ensures { λ r. ⌜ r ≡ whyOf (now (deck .entry)) (bitwise (now (protect .entry))) seat (machine s (now (memory .entry)) (now (journal .entry))) ⌝ }
 {
-    let registers = s.registers;
+    let registers = machine::registers_of(s, seat);
     let status = registers.status;
     let k = machine::entry(
-        status,
+        seat,
+        s.seat0.status,
+        s.seat1.status,
         s.used,
         deck.len(),
         protect,

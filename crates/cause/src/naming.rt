@@ -11,7 +11,7 @@ pub enum Named {
     FourWords(u32, u32, u32, u32),
 }
 
-// The number of the stop that the next step gives, 18 where it is none of 1 to 11.
+// The number of the stop that the next step gives, 18 where it is none of 20 and 1 to 11.
 pub struct Cause {
     pub number: u8,
     pub named: Named,

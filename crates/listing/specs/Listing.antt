@@ -53,12 +53,12 @@ listed steps stop g =
 abbrev pub blank : Buffers
 blank = buffers (replicate 16384 0) (replicate 4096 0) (bitwise (replicate 512 0))
 
--- from a fresh state and a journal of 4,096 words, to a stop; the run gets the cells of the orders read
+-- from a fresh state and a journal of 4,096 words, to a stop, at seat 0 (document 02, Job 12); the run gets the cells of the orders read
 abbrev pub ranFrom : ℕ → Buffers → Outcome Machine
-ranFrom n b = ran (take (n * 4) (b .cells)) (b .protect) 4294967295 (machine freshState (b .memory) (replicate 4096 0))
+ranFrom n b = ran (take (n * 4) (b .cells)) (b .protect) 0 4294967295 (machine freshState (b .memory) (replicate 4096 0))
 
 abbrev pub listedRun : Outcome Machine → List ℕ
-listedRun r = listed (r .taken) (r .stop) (r .after .state .registers)
+listedRun r = listed (r .taken) (r .stop) (r .after .state .seat0)
 
 abbrev pub answered : Said → Buffers → List ℕ
 answered (taken n) b = listedRun (ranFrom n b)

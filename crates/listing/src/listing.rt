@@ -16,7 +16,7 @@ ghost use Rattle.decktext.specs.Read.{saysReading, readText};
 ghost use Rattle.listing.specs.Listing.{blank, field, refusal, registerLine, registerLines, listed, listingOf};
 ghost use Rattle.listing.specs.Text.{Holds, Appended};
 
-// Reads the text, runs its orders from a fresh state to a stop, and lists what stands then.
+// Reads the text, runs its orders at seat 0 from a fresh state to a stop, and lists what stands there then.
 pub fn answer(text: &[u8]) -> Listing
     ensures { λ r. ⌜ Holds r (listingOf (now (text .entry))) ⌝ }
 {
@@ -33,6 +33,7 @@ pub fn answer(text: &[u8]) -> Listing
     let fresh = machine::fresh();
     list_run(machine::run(
         fresh,
+        0,
         &cells[..n],
         &mut memory,
         &protect,
@@ -70,10 +71,10 @@ fn list_refusal(number: u8, line: u32) -> Listing
 }
 
 fn list_run(r: Ran) -> Listing
-    ensures { λ t. ⌜ Holds t (listed (r .count) (numberOf (r .stop)) (r .state .registers)) ⌝ }
+    ensures { λ t. ⌜ Holds t (listed (r .count) (numberOf (r .stop)) (r .state .seat0)) ⌝ }
 {
     let s = r.state;
-    let g = s.registers;
+    let g = s.seat0;
     let stop = r.stop;
     let heading = with_bytes(empty(), b"steps stop next cc mask\n");
     let steps = with_field(heading, r.count as u64, b' ');

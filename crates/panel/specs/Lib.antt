@@ -1,3 +1,4 @@
+pub mod Back
 pub mod Reply
 pub mod Explain
 pub mod Chart

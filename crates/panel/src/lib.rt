@@ -26,6 +26,7 @@ ghost use Rattle.machine.specs.Back.{backed};
 ghost use Rattle.cause.specs.Cause.{whyOf};
 ghost use Rattle.chart.specs.Piece.{chartInto};
 ghost use Rattle.decktext.specs.Read.{buffers, readText};
+ghost use Rattle.panel.specs.Back.{TakenBack};
 ghost use Rattle.panel.specs.Chart.{pieceOf};
 ghost use Rattle.panel.specs.Explain.{explanationOf};
 ghost use Rattle.panel.specs.Reply.{reply, replied};
@@ -39,27 +40,29 @@ pub extern "C" fn panel_fresh(state: &mut State)
     *state = machine::fresh();
 }
 
-// One order; 0, or the number of the stop.
+// One order of a seat; 0, or the number of the stop.
 #[no_mangle]
 pub extern "C" fn panel_step(
     state: &mut State,
+    seat: u32,
     deck: &[u16],
     memory: &mut [u16],
     protect: &[u8],
     journal: &mut [u32],
 ) -> u8
     ensures { λ r. ⌜ single (machine (now (state .exit)) (now (memory .exit)) (now (journal .exit))) r
-        ≡ stepped (now (deck .entry)) (bitwise (now (protect .entry))) (machine (now (state .entry)) (now (memory .entry)) (now (journal .entry))) ⌝ }
+        ≡ stepped (now (deck .entry)) (bitwise (now (protect .entry))) seat (machine (now (state .entry)) (now (memory .entry)) (now (journal .entry))) ⌝ }
 {
-    let stepped = step_by_value(*state, deck, memory, protect, journal);
+    let stepped = step_by_value(*state, seat, deck, memory, protect, journal);
     *state = stepped.state;
     stepped.number
 }
 
-// Steps to the limit or to a stop; the number is 0 or the stop's, the value the steps taken.
+// Steps of a seat to the limit or to a stop; the number is 0 or the stop's, the value the steps taken.
 #[no_mangle]
 pub extern "C" fn panel_run(
     state: &mut State,
+    seat: u32,
     deck: &[u16],
     memory: &mut [u16],
     protect: &[u8],
@@ -67,27 +70,27 @@ pub extern "C" fn panel_run(
     limit: u32,
 ) -> Answer
     ensures { λ r. ⌜ outcome (machine (now (state .exit)) (now (memory .exit)) (now (journal .exit))) (r .value) (r .number)
-        ≡ ran (now (deck .entry)) (bitwise (now (protect .entry))) limit (machine (now (state .entry)) (now (memory .entry)) (now (journal .entry))) ⌝ }
+        ≡ ran (now (deck .entry)) (bitwise (now (protect .entry))) seat limit (machine (now (state .entry)) (now (memory .entry)) (now (journal .entry))) ⌝ }
 {
-    let ran = run_by_value(*state, deck, memory, protect, journal, limit);
+    let ran = run_by_value(*state, seat, deck, memory, protect, journal, limit);
     *state = ran.state;
     ran.answer
 }
 
-// The last step taken back; 0, or the number of the stop.
+// The last step taken back, of either seat; the number is 0 or the refusal's, the value whose step it was.
 #[no_mangle]
 pub extern "C" fn panel_back(
     state: &mut State,
     memory: &mut [u16],
     protect: &[u8],
     journal: &mut [u32],
-) -> u8
-    ensures { λ r. ⌜ outcome (machine (now (state .exit)) (now (memory .exit)) (now (journal .exit))) 0 r
-        ≡ backed (bitwise (now (protect .entry))) (machine (now (state .entry)) (now (memory .entry)) (now (journal .entry))) ⌝ }
+) -> Answer
+    ensures { λ r. ⌜ TakenBack (machine (now (state .exit)) (now (memory .exit)) (now (journal .exit))) r
+        (backed (bitwise (now (protect .entry))) (machine (now (state .entry)) (now (memory .entry)) (now (journal .entry)))) ⌝ }
 {
-    let stepped = back_by_value(*state, memory, protect, journal);
-    *state = stepped.state;
-    stepped.number
+    let undone = back_by_value(*state, memory, protect, journal);
+    *state = undone.state;
+    undone.answer
 }
 
 // Reads a deck text; the number is 0 and the value the order count, or the refusal's number and line.
@@ -118,19 +121,20 @@ pub extern "C" fn panel_read(
     }
 }
 
-// Why the next step is stopped: the number, and what it names; nothing is written.
+// Why the next step of a seat is stopped: the number, and what it names; nothing is written.
 #[no_mangle]
 pub extern "C" fn panel_why(
     state: &State,
+    seat: u32,
     deck: &[u16],
     memory: &[u16],
     protect: &[u8],
     journal: &[u32],
 ) -> Explanation
     ensures { λ r. ⌜ r
-        ≡ explanationOf (whyOf (now (deck .entry)) (bitwise (now (protect .entry))) (machine (now (state .entry)) (now (memory .entry)) (now (journal .entry)))) ⌝ }
+        ≡ explanationOf (whyOf (now (deck .entry)) (bitwise (now (protect .entry))) seat (machine (now (state .entry)) (now (memory .entry)) (now (journal .entry)))) ⌝ }
 {
-    why_by_value(*state, deck, memory, protect, journal)
+    why_by_value(*state, seat, deck, memory, protect, journal)
 }
 
 // The chart of every legal order with `at` below the bound, from a rank on, as much as the cells hold.

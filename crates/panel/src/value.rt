@@ -3,6 +3,7 @@ use cause::Cause;
 use cause::Cell;
 use cause::Named;
 use machine::State;
+use machine::Whose;
 ghost use mathlib.Core.Path.{_≡_};
 ghost use Rattle.protection.specs.Bits.{bitwise};
 ghost use Rattle.machine.specs.Machine.{machine};
@@ -11,6 +12,7 @@ ghost use Rattle.machine.specs.Run.{ran};
 ghost use Rattle.machine.specs.Back.{backed};
 ghost use Rattle.cause.specs.Cause.{whyOf};
 ghost use Rattle.cause.specs.Cell.{placeOf};
+ghost use Rattle.panel.specs.Back.{seatSaid, TakenBack};
 ghost use Rattle.panel.specs.Explain.{explanationOf};
 
 pub struct Stepped {
@@ -18,29 +20,31 @@ pub struct Stepped {
     pub number: u8,
 }
 
-// What C receives of a call with two answers: 0 or the number of its refusal, and a count or a line.
+// What C receives of a call with two answers: 0 or the number of its refusal, and a count, a line or a seat.
 #[repr(C)]
 pub struct Answer {
     pub number: u32,
     pub value: u32,
 }
 
-pub struct Ran {
+// The state after a run or a back step, and what C receives of it.
+pub struct Answered {
     pub state: State,
     pub answer: Answer,
 }
 
 pub fn step_by_value(
     s: State,
+    seat: u32,
     deck: &[u16],
     memory: &mut [u16],
     protect: &[u8],
     journal: &mut [u32],
 ) -> Stepped
     ensures { λ r. ⌜ single (machine (r .state) (now (memory .exit)) (now (journal .exit))) (r .number)
-        ≡ stepped (now (deck .entry)) (bitwise (now (protect .entry))) (machine s (now (memory .entry)) (now (journal .entry))) ⌝ }
+        ≡ stepped (now (deck .entry)) (bitwise (now (protect .entry))) seat (machine s (now (memory .entry)) (now (journal .entry))) ⌝ }
 {
-    let r = machine::step(s, deck, memory, protect, journal);
+    let r = machine::step(s, seat, deck, memory, protect, journal);
     let state = r.state;
     let stop = r.stop;
     Stepped {
@@ -51,36 +55,49 @@ pub fn step_by_value(
 
 pub fn run_by_value(
     s: State,
+    seat: u32,
     deck: &[u16],
     memory: &mut [u16],
     protect: &[u8],
     journal: &mut [u32],
     limit: u32,
-) -> Ran
+) -> Answered
     ensures { λ r. ⌜ outcome (machine (r .state) (now (memory .exit)) (now (journal .exit))) (r .answer .value) (r .answer .number)
-        ≡ ran (now (deck .entry)) (bitwise (now (protect .entry))) limit (machine s (now (memory .entry)) (now (journal .entry))) ⌝ }
+        ≡ ran (now (deck .entry)) (bitwise (now (protect .entry))) seat limit (machine s (now (memory .entry)) (now (journal .entry))) ⌝ }
 {
-    let r = machine::run(s, deck, memory, protect, journal, limit);
+    let r = machine::run(s, seat, deck, memory, protect, journal, limit);
     let state = r.state;
     let stop = r.stop;
+    let number = machine::number(stop) as u32;
     let answer = Answer {
-        number: machine::number(stop) as u32,
+        number,
         value: r.count,
     };
-    Ran { state, answer }
+    Answered { state, answer }
 }
 
-pub fn back_by_value(s: State, memory: &mut [u16], protect: &[u8], journal: &mut [u32]) -> Stepped
-    ensures { λ r. ⌜ outcome (machine (r .state) (now (memory .exit)) (now (journal .exit))) 0 (r .number)
-        ≡ backed (bitwise (now (protect .entry))) (machine s (now (memory .entry)) (now (journal .entry))) ⌝ }
+// 0 too where no step was taken back: the number tells.
+fn seat_said(whose: Whose) -> u32
+    ensures { λ r. ⌜ r ≡ seatSaid whose ⌝ }
+{
+    match whose {
+        Whose::Nobody => 0,
+        Whose::Seat(k) => k,
+    }
+}
+
+pub fn back_by_value(s: State, memory: &mut [u16], protect: &[u8], journal: &mut [u32]) -> Answered
+    ensures { λ r. ⌜ TakenBack (machine (r .state) (now (memory .exit)) (now (journal .exit))) (r .answer)
+        (backed (bitwise (now (protect .entry))) (machine s (now (memory .entry)) (now (journal .entry)))) ⌝ }
 {
     let r = machine::back(s, memory, protect, journal);
     let state = r.state;
     let stop = r.stop;
-    Stepped {
-        state,
-        number: machine::number(stop),
-    }
+    let whose = r.whose;
+    let number = machine::number(stop) as u32;
+    let value = seat_said(whose);
+    let answer = Answer { number, value };
+    Answered { state, answer }
 }
 
 // What C receives of a cause: its number, and as many values as count says; the others are 0.
@@ -143,14 +160,15 @@ fn explain(c: Cause) -> Explanation
 
 pub fn why_by_value(
     s: State,
+    seat: u32,
     deck: &[u16],
     memory: &[u16],
     protect: &[u8],
     journal: &[u32],
 ) -> Explanation
-    ensures { λ r. ⌜ r ≡ explanationOf (whyOf (now (deck .entry)) (bitwise (now (protect .entry))) (machine s (now (memory .entry)) (now (journal .entry)))) ⌝ }
+    ensures { λ r. ⌜ r ≡ explanationOf (whyOf (now (deck .entry)) (bitwise (now (protect .entry))) seat (machine s (now (memory .entry)) (now (journal .entry)))) ⌝ }
 {
-    explain(cause::why(s, deck, memory, protect, journal))
+    explain(cause::why(s, seat, deck, memory, protect, journal))
 }
 
 // What C receives of a piece of the chart: 0 or the number of the refusal, how many orders there are, and how

@@ -65,7 +65,7 @@ with-registers-requires c κs = room c
 returns : tie.Need-returns
 unfolding listed
 returns c =
-    let g = c .before .before .before .before .before .before .before .before .before .before .before .before .before .before .before .before .before .before .args .r .state .registers in
+    let g = c .before .before .before .before .before .before .before .before .before .before .before .before .before .before .before .before .before .before .args .r .state .seat0 in
     whole (c .before .before .before .before .before .before .before .before .before .before .before .before .before .before .before .empty .ensures .0)
     (then (c .before .before .before .before .before .before .before .before .before .before .before .before .before .with-bytes .ensures)
     (then (c .before .before .before .before .before .before .before .before .before .before .before .with-field .ensures .0)

@@ -10,8 +10,8 @@ run-requires c κs = search needs
 number-requires : tie.Need-number-requires
 number-requires c κs = search needs
 
-cast-t16 : tie.Need-cast-t16
-cast-t16 c = search needs
+cast-number : tie.Need-cast-number
+cast-number c = search needs
 
 same-length : tie.Need-same-length
 same-length c = search needs
@@ -24,4 +24,4 @@ returns c = rw (c .number .ensures) (c .before .before .before .before .before .
 
 pub run-by-value-spec : {M : Type 1} → statement M
 run-by-value-spec =
-    tie.close (tie.spec run-requires number-requires cast-t16 same-length same-length-2 returns)
+    tie.close (tie.spec run-requires number-requires cast-number same-length same-length-2 returns)
