@@ -1,11 +1,11 @@
-// Runs lists of calls on decks: each case is a deck text and one byte for each call.
+// Runs lists of calls on decks: each case is a deck text and two bytes for each call.
 //
-// A case is a line `LLLLL CCCCC`, the lengths of the text and of the calls, then the text, the calls
-// and a line feed. For each call a line is written with its answer and every register, and after the
-// calls of a case one line with the first 64 halfwords of memory.
+// A case is a line `LLLLL CCCCC`, the length of the text and the number of calls, then the text, the calls
+// and a line feed. A call is its seat, `-` for a back step, and its kind. For each call a line is written
+// with its answer and every register of both seats, and after the calls of a case one line with the first
+// 64 halfwords of memory.
 use decktext::Reading;
 use trial::Input;
-use trial::Layout;
 use trial::Number;
 
 fn complain() -> bool {
@@ -27,7 +27,6 @@ fn run_deck(
     }
     let listed = trial::list(
         calls,
-        Layout::Calls,
         machine::fresh(),
         &cells[..n],
         memory,
@@ -50,7 +49,7 @@ fn run_case(text: &[u8], calls: &[u8]) -> bool {
     run_deck(calls, &cells, count, &mut memory, &protect, &mut journal)
 }
 
-// Reads the text of n bytes and the k calls with their line feed, and makes the calls.
+// Reads the text of n bytes and the calls, k bytes, with their line feed, and makes the calls.
 fn read_and_run(n: usize, text: &mut [u8], k: usize, calls: &mut [u8]) -> bool {
     if text.len() < n {
         return complain();
@@ -83,7 +82,7 @@ fn one_case() -> bool {
     };
     let mut text = [0u8; 100000];
     let mut calls = [0u8; 100000];
-    read_and_run(n as usize, &mut text, k as usize, &mut calls)
+    read_and_run(n as usize, &mut text, k as usize * 2, &mut calls)
 }
 
 // A proved loop has to end: the turns count down from a number that no run uses up.

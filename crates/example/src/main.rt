@@ -1,34 +1,38 @@
-// Runs the deck of document 01's example from cells, steps it back to the start and forward again, and
-// writes what stands after each call: the call, its steps, stop, pointer, condition code, mask, used
-// count and selector; then the float registers and both sets of general ones.
-use machine::Ran;
+// Runs the deck of document 01's example from cells, at seat 0, steps it back to the start and forward
+// again, and writes what stands after each call: the call, its steps, stop, pointer, condition code, mask,
+// used count and selector; then the float registers and both sets of general ones.
 use machine::State;
 use machine::Stop;
+use machine::Whose;
+use trial::Called;
 ghost use Rattle.protection.specs.Bits.{bitwise};
 ghost use Rattle.machine.specs.Machine.{machine};
 ghost use Rattle.machine.specs.Stops.{numberOf};
 ghost use Rattle.example.specs.Return.{Returned};
 
-// How a step and the back step after it ended, and the state that they leave.
+// How a step and the back step after it ended, whose step was taken back, and the state that they leave.
 struct Return {
     state: State,
     step: Stop,
     back: Stop,
+    whose: Whose,
 }
 
-// A step, and the back step after it where it was taken. State and memory are then as they were: that
-// holds for whatever is lent, since a halfword of a `&mut [u16]` has 16 bits.
+// A step, and the back step after it where it was taken. State and memory are then as they were, and the
+// step is said to be its seat's: that holds for whatever is lent, since a halfword of a `&mut [u16]` has
+// 16 bits.
 fn step_and_return(
     s: State,
+    seat: u32,
     deck: &[u16],
     memory: &mut [u16],
     protect: &[u8],
     journal: &mut [u32],
 ) -> Return
-    ensures { λ r. ⌜ Returned (now (deck .entry)) (bitwise (now (protect .entry))) (machine s (now (memory .entry)) (now (journal .entry)))
-        (machine (r .state) (now (memory .exit)) (now (journal .exit))) (numberOf (r .step)) (numberOf (r .back)) ⌝ }
+    ensures { λ r. ⌜ Returned (now (deck .entry)) (bitwise (now (protect .entry))) seat (machine s (now (memory .entry)) (now (journal .entry)))
+        (machine (r .state) (now (memory .exit)) (now (journal .exit))) (numberOf (r .step)) (numberOf (r .back)) (r .whose) ⌝ }
 {
-    let there = machine::step(s, deck, memory, protect, journal);
+    let there = machine::step(s, seat, deck, memory, protect, journal);
     let after = there.state;
     let step = there.stop;
     if machine::number(step) != 0 {
@@ -36,18 +40,25 @@ fn step_and_return(
             state: after,
             step,
             back: Stop::Taken,
+            whose: Whose::Nobody,
         };
     }
     let again = machine::back(after, memory, protect, journal);
     let state = again.state;
     let back = again.stop;
-    Return { state, step, back }
+    let whose = again.whose;
+    Return {
+        state,
+        step,
+        back,
+        whose,
+    }
 }
 
 // A call's line, and the registers.
-fn show(name: [u8; 4], r: Ran) {
+fn show(name: [u8; 4], r: Called) {
     let s = r.state;
-    let g = s.registers;
+    let g = s.seat0;
     let float = g.float;
     let general = g.general;
     let stop = r.stop;
@@ -74,7 +85,7 @@ fn called(
     protect: &[u8],
     journal: &mut [u32],
 ) -> State {
-    let r = trial::call(byte, s, deck, memory, protect, journal);
+    let r = trial::call(b'0', byte, s, deck, memory, protect, journal);
     let after = r.state;
     show(name, r);
     after
@@ -82,7 +93,7 @@ fn called(
 
 // One step, shown. The step before it, with its return, leaves no trace but in unused journal words.
 fn step(s: State, deck: &[u16], memory: &mut [u16], protect: &[u8], journal: &mut [u32]) -> State {
-    let tried = step_and_return(s, deck, memory, protect, journal);
+    let tried = step_and_return(s, 0, deck, memory, protect, journal);
     let before = tried.state;
     called(b's', *b"step", before, deck, memory, protect, journal)
 }
@@ -98,16 +109,15 @@ fn main() {
     let mut memory: [u16; 4] = [0x4130, 0, 0x4120, 0];
     let protect: [u8; 1] = [0; 1];
     let mut journal: [u32; 16] = [0; 16];
-    let ran = machine::run(
+    let after = called(
+        b'R',
+        *b"run ",
         machine::fresh(),
         &deck,
         &mut memory,
         &protect,
         &mut journal,
-        100,
     );
-    let after = ran.state;
-    show(*b"run ", ran);
     let s3 = back(after, &deck, &mut memory, &protect, &mut journal);
     let s2 = back(s3, &deck, &mut memory, &protect, &mut journal);
     let s1 = back(s2, &deck, &mut memory, &protect, &mut journal);

@@ -1,21 +1,18 @@
 // Runs lists of calls on states, buffers and journals of any content and any length.
 //
-// A case has eight lines: `DDDDD MMMMM PPPPP JJJJJ KK`, the lengths of deck, memory, protect list and
-// journal and the number of calls, in decimal; `CC MM PPPP UUUUUUUU SS`, condition code, mask, pointer,
-// used count and selector, from here on in digits 0-9 A-F; the 24 registers, floats, set 0 and set 1; of
-// deck, memory, protect list and journal the first 32 elements, or all if fewer, a line each, those after
-// them being 0; the calls, one byte each. For each call a line is written with its answer and every
-// register, and after the calls of a case the first 32 halfwords of memory and the first 32 words of the
+// A case has nine lines: `DDDDD MMMMM PPPPP JJJJJ KK`, the lengths of deck, memory, protect list and
+// journal and the number of calls, in decimal; the state, three lines; of deck, memory, protect list and
+// journal the first 32 elements in digits 0-9 A-F, or all if fewer, a line each, those after them being 0;
+// the calls, two bytes each. For each call a line is written with its answer and every register of both
+// seats, and after the calls of a case the first 32 halfwords of memory and the first 32 words of the
 // journal, or all if fewer.
+mod start;
 mod values;
 
-use machine::Registers;
 use machine::State;
-use machine::Status;
+use start::read_start;
 use trial::Input;
-use trial::Layout;
 use trial::Number;
-use values::Values;
 use values::read_list;
 use values::values_of;
 ghost use Prim.Native.Nat.{_≤_};
@@ -35,7 +32,7 @@ fn written_words(journal: &[u32]) -> bool {
     trial::write(trial::with_byte(t, b'\n'))
 }
 
-// Reads the k calls and makes them, and writes what stands after them.
+// Reads the calls, k bytes, makes them, and writes what stands after them.
 fn run_case(
     k: usize,
     space: &mut [u8],
@@ -52,11 +49,11 @@ fn run_case(
     let Input::Whole = trial::read_line(calls) else {
         return complain();
     };
-    let listed = trial::list(calls, Layout::Odd, start, deck, memory, protect, journal);
+    let listed = trial::list(calls, start, deck, memory, protect, journal);
     listed.written && trial::write(trial::halfwords(memory, 32)) && written_words(journal)
 }
 
-// The lengths of a case.
+// The lengths of a case; that of the calls in bytes.
 struct Sizes {
     deck: usize,
     memory: usize,
@@ -74,7 +71,7 @@ fn lend(
     protect: &[u8],
     journal: &mut [u32],
 ) -> bool {
-    let mut calls = [0u8; 100];
+    let mut calls = [0u8; 200];
     let d = n.deck;
     let m = n.memory;
     let p = n.protect;
@@ -100,111 +97,6 @@ fn lend(
         &protect[..p],
         &mut journal[..j],
     )
-}
-
-fn read_registers() -> Values {
-    let mut line = [0u8; 215];
-    let Input::Whole = trial::read_line(&mut line) else {
-        return Values {
-            value: [0; 32],
-            formed: false,
-        };
-    };
-    values_of(16, &line, 24, 8, 9)
-}
-
-fn registers_of(v: [u32; 32], status: Status) -> Registers {
-    Registers {
-        float: [v[0], v[1], v[2], v[3], v[4], v[5], v[6], v[7]],
-        general: [
-            v[8],
-            v[9],
-            v[10],
-            v[11],
-            v[12],
-            v[13],
-            v[14],
-            v[15],
-            v[16],
-            v[17],
-            v[18],
-            v[19],
-            v[20],
-            v[21],
-            v[22],
-            v[23],
-        ],
-        status,
-    }
-}
-
-// The line before the registers.
-struct Heading {
-    status: Status,
-    used: u32,
-    formed: bool,
-}
-
-fn read_heading() -> Heading {
-    let refused = Heading {
-        status: Status {
-            condition: 0,
-            mask: 0,
-            pointer: 0,
-            selector: 0,
-        },
-        used: 0,
-        formed: false,
-    };
-    let mut line = [0u8; 22];
-    let Input::Whole = trial::read_line(&mut line) else {
-        return refused;
-    };
-    let Number::Value(condition) = trial::number_at(16, &line, 0, 2) else {
-        return refused;
-    };
-    let Number::Value(mask) = trial::number_at(16, &line, 3, 2) else {
-        return refused;
-    };
-    let Number::Value(pointer) = trial::number_at(16, &line, 6, 4) else {
-        return refused;
-    };
-    let Number::Value(used) = trial::number_at(16, &line, 11, 8) else {
-        return refused;
-    };
-    let Number::Value(selector) = trial::number_at(16, &line, 20, 2) else {
-        return refused;
-    };
-    Heading {
-        status: Status {
-            condition,
-            mask,
-            pointer: (pointer % 65536) as u16,
-            selector: (selector % 65536) as u16,
-        },
-        used,
-        formed: true,
-    }
-}
-
-// A state as it is given, whatever it holds.
-struct Start {
-    state: State,
-    formed: bool,
-}
-
-fn read_start() -> Start {
-    let heading = read_heading();
-    let status = heading.status;
-    let words = read_registers();
-    let value = words.value;
-    Start {
-        state: State {
-            registers: registers_of(value, status),
-            used: heading.used,
-        },
-        formed: heading.formed && words.formed,
-    }
 }
 
 // The first 32 elements of each buffer.
@@ -282,7 +174,7 @@ fn one_case() -> bool {
         memory: wide(v[1]),
         protect: wide(v[2]),
         journal: wide(v[3]),
-        calls: k as usize,
+        calls: k as usize * 2,
     })
 }
 

@@ -58,8 +58,9 @@ fn run_case(text: &[u8], head: Head) -> bool {
 
 // One case, and whether to go on.
 fn one_case() -> bool {
+    let mut line = [0u8; 23];
     let mut space = [0u8; 100000];
-    let Case::Read(head) = trial::next_case(b"reads", &mut space) else {
+    let Case::Read(head) = trial::next_case(b"reads", &mut line, &mut space) else {
         return false;
     };
     run_case(trial::text_of(&space, head.length), head)

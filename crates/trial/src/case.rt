@@ -62,21 +62,20 @@ pub enum Case {
     Nothing,
 }
 
-// Reads such a case.
-pub fn next_case(program: &[u8], space: &mut [u8]) -> Case {
-    let mut line = [0u8; 23];
-    let Text::Read(length) = next_text(program, &mut line, space) else {
+// Reads such a case, with whatever the program has after these numbers.
+pub fn next_case(program: &[u8], line: &mut [u8], space: &mut [u8]) -> Case {
+    let Text::Read(length) = next_text(program, line, space) else {
         return Case::Nothing;
     };
-    let Number::Value(amount) = number_at(10, &line, 6, 5) else {
+    let Number::Value(amount) = number_at(10, line, 6, 5) else {
         complain(program);
         return Case::Nothing;
     };
-    let Number::Value(place) = number_at(10, &line, 12, 5) else {
+    let Number::Value(place) = number_at(10, line, 12, 5) else {
         complain(program);
         return Case::Nothing;
     };
-    let Number::Value(value) = number_at(10, &line, 18, 5) else {
+    let Number::Value(value) = number_at(10, line, 18, 5) else {
         complain(program);
         return Case::Nothing;
     };

@@ -1,17 +1,17 @@
 // What most of the gate's programs share: input by lines and numbers, cases that have a text, a call by its
-// byte, and lines of output.
+// two bytes, and lines of output.
 //
 // What a program writes is held to outside vectors, so the contracts here speak of the calls alone; of
 // the text it is proved that it is made safely.
+mod answer;
 mod calling;
 mod case;
 mod input;
 mod line;
+mod listing;
 
-pub use calling::Layout;
-pub use calling::Listed;
+pub use calling::Called;
 pub use calling::call;
-pub use calling::list;
 pub use case::Case;
 pub use case::Head;
 pub use case::Text;
@@ -38,3 +38,5 @@ pub use line::with_float;
 pub use line::with_set_0;
 pub use line::with_set_1;
 pub use line::write;
+pub use listing::Listed;
+pub use listing::list;

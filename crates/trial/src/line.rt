@@ -1,13 +1,16 @@
 // A line of text. What does not fit is left out, so that nothing has to be shown of its length.
 
+// Room for the longest line, a call's with both seats, which has at most 530 bytes.
+const ROOM: usize = 576;
+
 pub struct Line {
-    pub bytes: [u8; 512],
+    pub bytes: [u8; ROOM],
     pub length: usize,
 }
 
 pub fn empty() -> Line {
     Line {
-        bytes: [0; 512],
+        bytes: [0; ROOM],
         length: 0,
     }
 }
@@ -15,7 +18,7 @@ pub fn empty() -> Line {
 pub fn with_byte(t: Line, b: u8) -> Line {
     let mut next = t;
     let at = t.length;
-    if at < 512 {
+    if at < ROOM {
         next.bytes[at] = b;
         next.length = at + 1;
     }
@@ -100,7 +103,7 @@ pub fn ended(t: Line) -> Line {
     let mut next = t;
     let n = t.length;
     if 0 < n {
-        if n <= 512 {
+        if n <= ROOM {
             next.bytes[n - 1] = b'\n';
         }
     }
@@ -109,7 +112,7 @@ pub fn ended(t: Line) -> Line {
 
 pub fn write(t: Line) -> bool {
     let n = t.length;
-    if 512 < n {
+    if ROOM < n {
         return false;
     }
     let bytes = t.bytes;

@@ -1,8 +1,8 @@
 // Asks why the next step is stopped: each case is a deck text, a number of steps and a cell to change.
 //
-// A case is a line `LLLLL SSSSS PPPPP VVVVV` and a text of L bytes. S steps are run, cell P of the deck
-// becomes V (none where P is past the deck), and then the tool is asked. For each case a line is written
-// with the number and what it names.
+// A case is a line `LLLLL SSSSS PPPPP VVVVV R A` and a text of L bytes. Seat R runs S steps, cell P of the
+// deck becomes V (none where P is past the deck), and then the tool is asked about seat A. For each case
+// a line is written with the number and what it names.
 use cause::Cause;
 use cause::Cell;
 use cause::Named;
@@ -10,6 +10,11 @@ use decktext::Reading;
 use trial::Case;
 use trial::Head;
 use trial::Line;
+use trial::Number;
+
+fn complain() -> bool {
+    trial::complain(b"why")
+}
 
 fn with_cell(t: Line, cell: Cell) -> Line {
     match cell {
@@ -45,9 +50,16 @@ fn line_of(c: Cause) -> Line {
     trial::ended(with_named(t, named))
 }
 
+// The seat that runs, and the one that is asked about.
+struct Seats {
+    running: u32,
+    asked: u32,
+}
+
 // The steps, the change and the question, on the deck of `count` orders.
 fn ask(
     head: Head,
+    seats: Seats,
     cells: &mut [u16],
     count: u32,
     memory: &mut [u16],
@@ -59,33 +71,52 @@ fn ask(
         return false;
     }
     let deck = &mut cells[..n];
+    let start = machine::fresh();
+    let seat = seats.running;
     let steps = head.amount;
-    let ran = machine::run(machine::fresh(), deck, memory, protect, journal, steps);
+    let ran = machine::run(start, seat, deck, memory, protect, journal, steps);
     trial::change(deck, head.place, head.value);
     let state = ran.state;
-    trial::write(line_of(cause::why(state, deck, memory, protect, journal)))
+    let seat = seats.asked;
+    trial::write(line_of(cause::why(state, seat, deck, memory, protect, journal)))
 }
 
 // On the desk's buffers.
-fn run_case(text: &[u8], head: Head) -> bool {
+fn run_case(text: &[u8], head: Head, seats: Seats) -> bool {
     let mut cells = [0u16; 16384];
     let mut memory = [0u16; 4096];
     let mut protect = [0u8; 512];
     let mut journal = [0u32; 4096];
     let reading = decktext::read(text, &mut cells, &mut memory, &mut protect);
     let Reading::Taken(count) = reading else {
-        return trial::complain(b"why");
+        return complain();
     };
-    ask(head, &mut cells, count, &mut memory, &protect, &mut journal)
+    ask(
+        head,
+        seats,
+        &mut cells,
+        count,
+        &mut memory,
+        &protect,
+        &mut journal,
+    )
 }
 
 // One case, and whether to go on.
 fn one_case() -> bool {
+    let mut line = [0u8; 27];
     let mut space = [0u8; 100000];
-    let Case::Read(head) = trial::next_case(b"why", &mut space) else {
+    let Case::Read(head) = trial::next_case(b"why", &mut line, &mut space) else {
         return false;
     };
-    run_case(trial::text_of(&space, head.length), head)
+    let Number::Value(running) = trial::number_at(10, &line, 24, 1) else {
+        return complain();
+    };
+    let Number::Value(asked) = trial::number_at(10, &line, 26, 1) else {
+        return complain();
+    };
+    let text = trial::text_of(&space, head.length);
+    run_case(text, head, Seats { running, asked })
 }
 
 // A proved loop has to end: the turns count down from a number that no run uses up.

@@ -20,7 +20,7 @@ same-length-2 : tie.Need-same-length-2
 same-length-2 c = search needs
 
 returns : tie.Need-returns
-returns c = refused _ _ _ (λ h. c .if1 .taken (c .before .number .ensures ∙ h)) (c .before .before .before .before .before .before .before .step .ensures)
+returns c = refused _ _ _ _ (λ h. c .if1 .taken (c .before .number .ensures ∙ h)) (c .before .before .before .before .before .before .before .step .ensures)
 
 back-requires : tie.Need-back-requires
 back-requires c κs = search needs
@@ -32,7 +32,7 @@ same-length-4 : tie.Need-same-length-4
 same-length-4 c = search needs
 
 returns-2 : tie.Need-returns-2
-returns-2 c = returned _ _ _ (record { halfword = λ i. omega (arith, c .before .before .before .before .before .before .before .before .before .before .before .before .before .before .before .before .before .before .before .before .slice-known .given i) }) (sym (c .before .before .before .before .before .before .before .before .before .number .ensures) ∙ c .before .before .before .before .before .before .before .before .if1 .left) (c .before .before .before .before .before .before .before .before .before .before .before .before .before .before .before .step .ensures) (c .before .before .before .before .before .back .ensures)
+returns-2 c = returned _ _ _ _ (record { halfword = λ i. omega (arith, c .before .before .before .before .before .before .before .before .before .before .before .before .before .before .before .before .before .before .before .before .slice-known .given i) }) (sym (c .before .before .before .before .before .before .before .before .before .number .ensures) ∙ c .before .before .before .before .before .before .before .before .if1 .left) (c .before .before .before .before .before .before .before .before .before .before .before .before .before .before .before .step .ensures) (c .before .before .before .before .before .back .ensures)
 
 pub step-and-return-spec : {M : Type 1} → statement M
 step-and-return-spec =

@@ -8,10 +8,10 @@ use borrow.Author.Needs.{needs}
 use Rattle.trial.proofs.line.write.Statement.{statement}
 use Rattle.trial.proofs.line.write.Tie as tie
 
--- the array has 512 bytes
+-- the array has 576 bytes
 room : (c : tie.Else1) → c .before .args .t .length ≤ length (c .before .args .t .bytes)
 room c =
-    let long : length (c .before .args .t .bytes) ≡ 512 = search needs in
+    let long : length (c .before .args .t .bytes) ≡ 576 = search needs in
     omega arith
 
 returns : tie.Need-returns
