@@ -1,5 +1,5 @@
 //! The proved library, as C sees it. Nothing checks these declarations against the Rattle source but the comparison.
-use crate::reference::State;
+use crate::reference::{Seat, State};
 
 #[repr(C)]
 #[derive(Clone, Copy)]
@@ -50,7 +50,7 @@ struct Finding {
 #[repr(C)]
 #[derive(Clone, Copy)]
 pub struct Lent {
-    registers: Registers,
+    seats: [Registers; 2],
     used: u32,
 }
 
@@ -58,6 +58,7 @@ extern "C" {
     fn panel_fresh(state: *mut Lent);
     fn panel_step(
         state: *mut Lent,
+        seat: u32,
         deck: *const u16,
         deck_len: usize,
         memory: *mut u16,
@@ -69,6 +70,7 @@ extern "C" {
     ) -> u8;
     fn panel_run(
         state: *mut Lent,
+        seat: u32,
         deck: *const u16,
         deck_len: usize,
         memory: *mut u16,
@@ -87,9 +89,10 @@ extern "C" {
         protect_len: usize,
         journal: *mut u32,
         journal_len: usize,
-    ) -> u8;
+    ) -> Answer;
     fn panel_why(
         state: *const Lent,
+        seat: u32,
         deck: *const u16,
         deck_len: usize,
         memory: *const u16,
@@ -113,20 +116,32 @@ extern "C" {
     fn panel_unset(deck: *const u16, deck_len: usize) -> Finding;
 }
 
-impl From<State> for Lent {
-    fn from(s: State) -> Lent {
-        let State { float, general, selector, code, mask, pointer, used } = s;
+impl From<Seat> for Registers {
+    fn from(s: Seat) -> Registers {
+        let Seat { float, general, selector, code, mask, pointer } = s;
         // states have selectors of 16 bits here
         let status = Status { condition: code, mask, pointer, selector: selector as u16 };
-        Lent { registers: Registers { float, general, status }, used }
+        Registers { float, general, status }
+    }
+}
+
+impl From<Registers> for Seat {
+    fn from(r: Registers) -> Seat {
+        let Registers { float, general, status } = r;
+        let Status { condition, mask, pointer, selector } = status;
+        Seat { float, general, selector: selector as u32, code: condition, mask, pointer }
+    }
+}
+
+impl From<State> for Lent {
+    fn from(s: State) -> Lent {
+        Lent { seats: s.seats.map(Registers::from), used: s.used }
     }
 }
 
 impl From<Lent> for State {
     fn from(l: Lent) -> State {
-        let Registers { float, general, status } = l.registers;
-        let Status { condition, mask, pointer, selector } = status;
-        State { float, general, selector: selector as u32, code: condition, mask, pointer, used: l.used }
+        State { seats: l.seats.map(Seat::from), used: l.used }
     }
 }
 
@@ -135,10 +150,11 @@ pub fn fresh(s: &mut Lent) {
 }
 
 #[inline]
-pub fn step(s: &mut Lent, deck: &[u16], memory: &mut [u16], protect: &[u8], journal: &mut [u32]) -> u8 {
+pub fn step(s: &mut Lent, seat: u32, deck: &[u16], memory: &mut [u16], protect: &[u8], journal: &mut [u32]) -> u8 {
     unsafe {
         panel_step(
             s,
+            seat,
             deck.as_ptr(),
             deck.len(),
             memory.as_mut_ptr(),
@@ -154,6 +170,7 @@ pub fn step(s: &mut Lent, deck: &[u16], memory: &mut [u16], protect: &[u8], jour
 #[inline]
 pub fn run(
     s: &mut Lent,
+    seat: u32,
     deck: &[u16],
     memory: &mut [u16],
     protect: &[u8],
@@ -163,6 +180,7 @@ pub fn run(
     let a = unsafe {
         panel_run(
             s,
+            seat,
             deck.as_ptr(),
             deck.len(),
             memory.as_mut_ptr(),
@@ -177,9 +195,10 @@ pub fn run(
     (a.value, a.number as u8)
 }
 
+/// The seat whose step was taken back, or the number of the refusal, which names none.
 #[inline]
-pub fn back(s: &mut Lent, memory: &mut [u16], protect: &[u8], journal: &mut [u32]) -> u8 {
-    unsafe {
+pub fn back(s: &mut Lent, memory: &mut [u16], protect: &[u8], journal: &mut [u32]) -> Result<u32, u8> {
+    let a = unsafe {
         panel_back(
             s,
             memory.as_mut_ptr(),
@@ -189,14 +208,20 @@ pub fn back(s: &mut Lent, memory: &mut [u16], protect: &[u8], journal: &mut [u32
             journal.as_mut_ptr(),
             journal.len(),
         )
+    };
+    if a.number == 0 {
+        return Ok(a.value);
     }
+    assert_eq!(a.value, 0);
+    Err(a.number as u8)
 }
 
 /// A number and what it names; values past the count are 0.
-pub fn why(s: &Lent, deck: &[u16], memory: &[u16], protect: &[u8], journal: &[u32]) -> (u8, Vec<u32>) {
+pub fn why(s: &Lent, seat: u32, deck: &[u16], memory: &[u16], protect: &[u8], journal: &[u32]) -> (u8, Vec<u32>) {
     let c = unsafe {
         panel_why(
             s,
+            seat,
             deck.as_ptr(),
             deck.len(),
             memory.as_ptr(),

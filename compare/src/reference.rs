@@ -2,9 +2,9 @@
 use std::cmp::Ordering;
 use std::collections::VecDeque;
 
-/// The state of the desk.
+/// What the orders of one seat see.
 #[derive(Clone, Copy, PartialEq, Eq, Debug, Default)]
-pub struct State {
+pub struct Seat {
     pub float: [u32; 8],
     /// Two sets; the selector names the one in use.
     pub general: [[u32; 8]; 2],
@@ -12,6 +12,12 @@ pub struct State {
     pub code: u32,
     pub mask: u32,
     pub pointer: u16,
+}
+
+/// The state of the desk: two seats (document 02, Job 12) and their common used count.
+#[derive(Clone, Copy, PartialEq, Eq, Debug, Default)]
+pub struct State {
+    pub seats: [Seat; 2],
     pub used: u32,
 }
 
@@ -319,12 +325,12 @@ fn put(memory: &mut [u16], at: usize, w: u32) {
 }
 
 /// The general registers that orders name (document 02, Job 8).
-fn selected(s: &State) -> &[u32; 8] {
+fn selected(s: &Seat) -> &[u32; 8] {
     &s.general[s.selector as usize]
 }
 
 /// Where the storage operand is (document 02, Job 7): r2 names an index register, unless it is 0.
-fn address(s: &State, cells: [u16; 4]) -> usize {
+fn address(s: &Seat, cells: [u16; 4]) -> usize {
     let index = match cells[2] {
         0 => 0,
         r => selected(s)[r as usize] & 0xffff,
@@ -337,18 +343,27 @@ fn protected(list: &[u8], a: usize) -> bool {
     list[a / 8] & 1 << (a % 8) != 0
 }
 
-/// Checks 2 and 3.
+/// Check 3, as far as it looks at a seat.
+fn broken(s: &Seat) -> bool {
+    s.code == 2 || s.code > 3 || s.mask > 1 || s.selector > 1
+}
+
+/// Checks 2 and 3: of both seats, whichever steps.
 fn held(s: &State, memory: usize, protect: usize, journal: usize) -> Result<(), u8> {
     if memory > 32_768 || journal > 16_384 || protect != memory.div_ceil(8) {
         return Err(2);
     }
-    if s.code == 2 || s.code > 3 || s.mask > 1 || s.selector > 1 || s.used as usize > journal / 4 {
+    if s.seats.iter().any(broken) || s.used as usize > journal / 4 {
         return Err(3);
     }
     Ok(())
 }
 
-fn entry(s: &State, deck: usize, memory: usize, protect: usize, journal: usize) -> Result<(), u8> {
+/// Check 20, which stands before all others, and checks 1 to 3.
+fn entry(s: &State, seat: u32, deck: usize, memory: usize, protect: usize, journal: usize) -> Result<(), u8> {
+    if seat > 1 {
+        return Err(20);
+    }
     if deck % 4 != 0 || deck > 16_384 {
         return Err(1);
     }
@@ -356,7 +371,7 @@ fn entry(s: &State, deck: usize, memory: usize, protect: usize, journal: usize) 
 }
 
 #[inline]
-fn effect(s: &State, cells: [u16; 4], memory: &[u16]) -> Result<Effect, u8> {
+fn effect(s: &Seat, cells: [u16; 4], memory: &[u16]) -> Result<Effect, u8> {
     let [code, r1, r2, at] = cells;
     let (r1, r2, a) = (r1 as usize, r2 as usize, address(s, cells));
     let next = |change, code| Effect { change, code, mask: s.mask, selector: s.selector, pointer: s.pointer + 1 };
@@ -471,8 +486,9 @@ fn effect(s: &State, cells: [u16; 4], memory: &[u16]) -> Result<Effect, u8> {
 }
 
 /// Every check of a step in the table's order, or its effect.
-fn decide(s: &State, b: &Buffers) -> Result<Effect, u8> {
-    entry(s, b.deck.len(), b.memory.len(), b.protect.len(), b.journal.len())?;
+fn decide(state: &State, seat: u32, b: &Buffers) -> Result<Effect, u8> {
+    entry(state, seat, b.deck.len(), b.memory.len(), b.protect.len(), b.journal.len())?;
+    let s = &state.seats[seat as usize];
     let p = s.pointer as usize;
     if p >= b.deck.len() / 4 {
         return Err(4);
@@ -484,7 +500,7 @@ fn decide(s: &State, b: &Buffers) -> Result<Effect, u8> {
     if cells[0] == 22 {
         return Err(12);
     }
-    if s.used as usize == b.journal.len() / 4 {
+    if state.used as usize == b.journal.len() / 4 {
         return Err(13);
     }
     let (_, _, _, span) = form(cells[0]).unwrap();
@@ -509,7 +525,7 @@ fn broken_cell(cells: [u16; 4]) -> u32 {
 }
 
 /// The words of the operands that an order with a stop from 8 to 11 reads.
-fn operand_words(s: &State, cells: [u16; 4], memory: &[u16]) -> Vec<u32> {
+fn operand_words(s: &Seat, cells: [u16; 4], memory: &[u16]) -> Vec<u32> {
     let ([code, r1, r2, _], at) = (cells.map(usize::from), address(s, cells));
     let words = if matches!(code, 13 | 14 | 27..=30 | 33 | 34) { 2 } else { 1 };
     let register = |r: usize| (0..words).map(move |k| s.float[(r + k) % 8]);
@@ -521,13 +537,14 @@ fn operand_words(s: &State, cells: [u16; 4], memory: &[u16]) -> Vec<u32> {
     }
 }
 
-/// Why the next step is stopped (document 02, Job 5): a number, and what it names.
-pub fn why(s: &State, b: &Buffers) -> (u8, Vec<u32>) {
-    let number = match decide(s, b) {
+/// Why the next step of a seat is stopped (document 02, Job 5): a number, and what it names.
+pub fn why(state: &State, seat: u32, b: &Buffers) -> (u8, Vec<u32>) {
+    let number = match decide(state, seat, b) {
         Ok(_) | Err(12 | 13) => return (18, vec![]),
-        Err(n @ 1..=4) => return (n, vec![]),
+        Err(n @ (1..=4 | 20)) => return (n, vec![]),
         Err(n) => n,
     };
+    let s = &state.seats[seat as usize];
     let p = 4 * s.pointer as usize;
     let cells = [b.deck[p], b.deck[p + 1], b.deck[p + 2], b.deck[p + 3]];
     let addresses = || (address(s, cells)..).take(form(cells[0]).unwrap().3);
@@ -540,7 +557,7 @@ pub fn why(s: &State, b: &Buffers) -> (u8, Vec<u32>) {
     (number, names)
 }
 
-fn old(s: &State, memory: &[u16], c: Change) -> (u32, u32, u32, u32) {
+fn old(s: &Seat, memory: &[u16], c: Change) -> (u32, u32, u32, u32) {
     match c {
         Change::Nothing => (0, 0, 0, 0),
         Change::Float(r, _) => (1, r as u32, s.float[r], 0),
@@ -551,7 +568,7 @@ fn old(s: &State, memory: &[u16], c: Change) -> (u32, u32, u32, u32) {
     }
 }
 
-fn apply(s: &mut State, memory: &mut [u16], e: &Effect) {
+fn apply(s: &mut Seat, memory: &mut [u16], e: &Effect) {
     match e.change {
         Change::Nothing => {}
         Change::Float(r, w) => s.float[r] = w,
@@ -572,29 +589,30 @@ fn apply(s: &mut State, memory: &mut [u16], e: &Effect) {
     s.pointer = e.pointer;
 }
 
-/// One step: 0 or the number of the stop.
-pub fn step(s: &mut State, b: &mut Buffers) -> u8 {
-    let e = match decide(s, b) {
+/// One step of a seat: 0 or the number of the stop.
+pub fn step(state: &mut State, seat: u32, b: &mut Buffers) -> u8 {
+    let e = match decide(state, seat, b) {
         Ok(e) => e,
         Err(n) => return n,
     };
+    let s = &mut state.seats[seat as usize];
     let (kind, place, left, right) = old(s, &b.memory, e.change);
-    let head = s.pointer as u32 | s.code << 16 | s.mask << 18 | kind << 19 | s.selector << 22;
-    let k = 4 * s.used as usize;
+    let head = s.pointer as u32 | s.code << 16 | s.mask << 18 | kind << 19 | s.selector << 22 | seat << 23;
+    let k = 4 * state.used as usize;
     b.journal[k..k + 4].copy_from_slice(&[head, place, left, right]);
     apply(s, &mut b.memory, &e);
-    s.used += 1;
+    state.used += 1;
     0
 }
 
-/// A run: the steps taken, and 0 or the number of the stop.
-pub fn run(s: &mut State, b: &mut Buffers, limit: u32) -> (u32, u8) {
-    if let Err(n) = entry(s, b.deck.len(), b.memory.len(), b.protect.len(), b.journal.len()) {
+/// A run of a seat: the steps taken, and 0 or the number of the stop.
+pub fn run(s: &mut State, seat: u32, b: &mut Buffers, limit: u32) -> (u32, u8) {
+    if let Err(n) = entry(s, seat, b.deck.len(), b.memory.len(), b.protect.len(), b.journal.len()) {
         return (0, n);
     }
     let mut count = 0;
     while count < limit {
-        match step(s, b) {
+        match step(s, seat, b) {
             0 => count += 1,
             n => return (count, n),
         }
@@ -602,20 +620,18 @@ pub fn run(s: &mut State, b: &mut Buffers, limit: u32) -> (u32, u8) {
     (count, 0)
 }
 
-/// A back step: 0 or the number of the stop.
-pub fn back(s: &mut State, b: &mut Buffers) -> u8 {
-    if let Err(n) = held(s, b.memory.len(), b.protect.len(), b.journal.len()) {
-        return n;
-    }
+/// A back step: the seat whose step it took back, or the number of the stop.
+pub fn back(s: &mut State, b: &mut Buffers) -> Result<u32, u8> {
+    held(s, b.memory.len(), b.protect.len(), b.journal.len())?;
     if s.used == 0 {
-        return 14;
+        return Err(14);
     }
     let k = 4 * (s.used as usize - 1);
     let [head, place, left, right] = [b.journal[k], b.journal[k + 1], b.journal[k + 2], b.journal[k + 3]];
     let r = place as usize;
-    let selector = head >> 22;
-    if selector > 1 {
-        return 15;
+    let (selector, seat) = (head >> 22 & 1, head >> 23);
+    if seat > 1 {
+        return Err(15);
     }
     let change = match head >> 19 & 7 {
         0 if place == 0 && left == 0 && right == 0 => Change::Nothing,
@@ -624,7 +640,7 @@ pub fn back(s: &mut State, b: &mut Buffers) -> u8 {
         3 if r < 8 && right == 0 => Change::General(selector as usize, r, left),
         4 if right == 0 => Change::Two(r, left),
         5 => Change::Four(r, left, right),
-        _ => return 15,
+        _ => return Err(15),
     };
     let span = match change {
         Change::Two(..) => 2,
@@ -632,7 +648,7 @@ pub fn back(s: &mut State, b: &mut Buffers) -> u8 {
         _ => 0,
     };
     if span > 0 && (r + span > b.memory.len() || (r..r + span).any(|a| protected(&b.protect, a))) {
-        return 15;
+        return Err(15);
     }
     let e = Effect {
         change,
@@ -642,11 +658,11 @@ pub fn back(s: &mut State, b: &mut Buffers) -> u8 {
         pointer: head as u16,
     };
     if e.code == 2 {
-        return 15;
+        return Err(15);
     }
-    apply(s, &mut b.memory, &e);
+    apply(&mut s.seats[seat as usize], &mut b.memory, &e);
     s.used -= 1;
-    0
+    Ok(seat)
 }
 
 // ---- deck text

@@ -1,6 +1,6 @@
 //! Document 01's run and reader once more, tuned as a good Rust programmer would: one match, the state changed in place, a
 //! text read in one pass. Held to the reference by the comparison; a harder opponent for the benchmark.
-use crate::reference::{Buffers, State};
+use crate::reference::{Buffers, Seat, State};
 use std::cmp::Ordering;
 
 #[inline(always)]
@@ -146,27 +146,28 @@ fn word(m: &[u16], a: usize) -> u32 {
 
 /// The selected set. The selector is 0 or 1; its lowest bit is taken to spare the check of an index.
 #[inline(always)]
-fn set(s: &State) -> usize {
+fn set(s: &Seat) -> usize {
     (s.selector & 1) as usize
 }
 
 struct Run<'a> {
-    s: &'a mut State,
-    /// Mask and selector as they stand in word 0 of a record: they seldom change.
+    s: &'a mut Seat,
+    used: &'a mut u32,
+    /// Mask, selector and seat as they stand in word 0 of a record: the first two seldom change, the seat never.
     held: u32,
     journal: &'a mut [u32],
 }
 #[inline(always)]
-fn held(s: &State) -> u32 {
+fn held(s: &Seat) -> u32 {
     s.mask << 18 | s.selector << 22
 }
 impl Run<'_> {
     #[inline(always)]
     fn record(&mut self, kind: u32, place: u32, l: u32, r: u32) {
         let h = self.s.pointer as u32 | self.s.code << 16 | self.held | kind << 19;
-        let k = 4 * self.s.used as usize;
+        let k = 4 * *self.used as usize;
         self.journal[k..k + 4].copy_from_slice(&[h, place, l, r]);
-        self.s.used += 1;
+        *self.used += 1;
     }
     #[inline(always)]
     fn float(&mut self, r: usize, w: u32, code: u32, p: u16) {
@@ -205,7 +206,7 @@ impl Run<'_> {
         self.s.mask = mask;
         self.s.selector = selector;
         self.s.pointer = p;
-        self.held = held(self.s);
+        self.held = self.held & 1 << 23 | held(self.s);
     }
 }
 
@@ -235,19 +236,29 @@ fn any_protected(list: &[u8], a: usize, span: usize) -> bool {
     two >> (a % 8) & ((1 << span) - 1) != 0
 }
 
-pub fn run(st: &mut State, b: &mut Buffers, limit: u32) -> (u32, u8) {
+#[inline(always)]
+fn sound(s: &Seat) -> bool {
+    matches!(s.code, 0 | 1 | 3) && (s.mask | s.selector) < 2
+}
+
+pub fn run(st: &mut State, seat: u32, b: &mut Buffers, limit: u32) -> (u32, u8) {
+    let State { seats, used } = st;
+    if seat as usize >= seats.len() {
+        return (0, 20);
+    }
     if b.deck.len() % 4 != 0 || b.deck.len() > 16_384 {
         return (0, 1);
     }
     if b.memory.len() > 32_768 || b.journal.len() > 16_384 || b.protect.len() != b.memory.len().div_ceil(8) {
         return (0, 2);
     }
-    if st.code == 2 || st.code > 3 || st.mask > 1 || st.selector > 1 || st.used as usize > b.journal.len() / 4 {
+    let room = (b.journal.len() / 4) as u32;
+    if !sound(&seats[0]) || !sound(&seats[1]) || *used > room {
         return (0, 3);
     }
-    let room = (b.journal.len() / 4) as u32;
     let (deck, memory, protect) = (&b.deck[..], &mut b.memory[..], &b.protect[..]);
-    let mut m = Run { held: held(st), s: st, journal: &mut b.journal[..] };
+    let s = &mut seats[seat as usize];
+    let mut m = Run { held: held(s) | seat << 23, s, used, journal: &mut b.journal[..] };
     let mut count = 0;
     let mut stop = 0;
     while count < limit {
@@ -272,7 +283,7 @@ pub fn run(st: &mut State, b: &mut Buffers, limit: u32) -> (u32, u8) {
             stop = 12;
             break;
         }
-        if s.used == room {
+        if *m.used == room {
             stop = 13;
             break;
         }

@@ -2,7 +2,7 @@
 use compare::guarded::Guarded;
 use compare::panel::{self, Lent};
 use compare::random::Random;
-use compare::reference::{self, Buffers, State, MNEMONICS};
+use compare::reference::{self, Buffers, Seat, State, MNEMONICS};
 use compare::tuned;
 
 const CALLS: u64 = 1_200_000;
@@ -54,8 +54,8 @@ fn general(r: &mut Random) -> u32 {
     }
 }
 
-fn state(r: &mut Random) -> State {
-    let mut s = State::default();
+fn seat(r: &mut Random) -> Seat {
+    let mut s = Seat::default();
     s.float = s.float.map(|_| r.float());
     s.general = s.general.map(|set| set.map(|_| general(r)));
     s.selector = r.below(2) as u32;
@@ -64,18 +64,34 @@ fn state(r: &mut Random) -> State {
     s
 }
 
-/// A state that no call leaves behind; often one high bit is set above a legal value, which a narrower word would not have.
-fn wild(r: &mut Random, s: &mut State) {
+fn state(r: &mut Random) -> State {
+    State { seats: [seat(r), seat(r)], used: 0 }
+}
+
+/// A state that no call leaves behind, in either seat, whichever steps next; often one high bit is set above a legal value,
+/// which a narrower word would not have.
+fn wild(r: &mut Random, state: &mut State) {
+    let s = &mut state.seats[r.below(2) as usize];
     match r.below(5) {
         0 => s.code = r.below(4) as u32 | 1 << r.below(32),
         1 => s.mask = r.below(2) as u32 | 1 << r.below(32),
-        2 => s.used = r.next() as u32 >> r.below(32),
+        2 => state.used = r.next() as u32 >> r.below(32),
         3 => s.selector = r.below(2) as u32 | 1 << r.below(16),
         _ => s.pointer = r.next() as u16,
     }
 }
 
-/// A record of the form that no step wrote: any kind and either set, whatever set is selected now.
+/// The seat that a call is given: seldom one that there is not, and such a one is often 0 or 1 in a narrower word.
+fn whose_turn(r: &mut Random) -> u32 {
+    let seat = r.below(2) as u32;
+    match r.below(40) {
+        0 => seat | 2 << r.below(31),
+        1 => u32::MAX - seat,
+        _ => seat,
+    }
+}
+
+/// A record of the form that no step wrote: any kind, either seat and either set, whatever set is selected now.
 fn record(r: &mut Random, memory: u64) -> [u32; 4] {
     let kind = r.below(6);
     let status = r.below(65_536) >> r.below(17) | [0, 1, 3][r.below(3) as usize] << 16 | r.below(2) << 18;
@@ -89,11 +105,11 @@ fn record(r: &mut Random, memory: u64) -> [u32; 4] {
         2 | 5 => (r.next(), r.next()),
         _ => (r.next(), 0),
     };
-    [status | kind << 19 | r.below(2) << 22, place, left, right].map(|word| word as u32)
+    [status | kind << 19 | r.below(4) << 22, place, left, right].map(|word| word as u32)
 }
 
-/// Damages the record that a back step reads: another in its place, or one bit of its code, mask, kind, set or above them
-/// turned; now and then any word, too.
+/// Damages the record that a back step reads: another in its place, or one bit of its code, mask, kind, set, seat or above
+/// them turned; now and then any word, too.
 fn damage(r: &mut Random, s: &State, b: &mut Buffers) {
     let end = 4 * s.used as usize;
     if end == 0 || end > b.journal.len() {
@@ -143,11 +159,11 @@ fn buffers(r: &mut Random) -> Buffers {
     }
 }
 
-/// Pairs and storage near one number, so that sums cancel and carry, or such that products stand at the limits.
+/// Pairs of both seats and storage near one number, so that sums cancel and carry, or such that products stand at the limits.
 fn alike(r: &mut Random, s: &mut State, memory: &mut [u16]) {
     let words = [r.float(), r.float()].map(u64::from);
     let number = words[0] << 32 | words[r.below(2) as usize];
-    for pair in s.float.chunks_exact_mut(2) {
+    for pair in s.seats.iter_mut().flat_map(|seat| seat.float.chunks_exact_mut(2)) {
         let w = other(r, number);
         pair.copy_from_slice(&[(w >> 32) as u32, w as u32]);
     }
@@ -177,35 +193,39 @@ fn machine(r: &mut Random) -> u64 {
     }
     let calls = 4 + r.below(60);
     for k in 0..calls {
-        let (sound, call) = (s, r.below(10));
+        let (sound, call, seat) = (s, r.below(10), whose_turn(r));
         disturb(r, &mut s, &mut b, call < 3);
-        ask(s, &b);
+        ask(s, seat, &b);
         let mut lent = Lent::from(s);
         let mut memory = Guarded::new(&b.memory, 0xA5A5);
         let mut journal = Guarded::new(&b.journal, 0xA5A5_A5A5);
         let (ours, theirs) = match call {
             0 | 1 | 2 => (
-                (0, reference::back(&mut s, &mut b)),
-                (0, panel::back(&mut lent, memory.inner(), &b.protect, journal.inner())),
+                told(reference::back(&mut s, &mut b)),
+                told(panel::back(&mut lent, memory.inner(), &b.protect, journal.inner())),
             ),
             3 => {
                 let limit = if r.chance(3) { r.below(3) as u32 } else { r.below(200) as u32 };
-                tuned_run(s, &b, limit);
+                tuned_run(s, seat, &b, limit);
                 (
-                    reference::run(&mut s, &mut b, limit),
-                    panel::run(&mut lent, &b.deck, memory.inner(), &b.protect, journal.inner(), limit),
+                    reference::run(&mut s, seat, &mut b, limit),
+                    panel::run(&mut lent, seat, &b.deck, memory.inner(), &b.protect, journal.inner(), limit),
                 )
             }
             _ => {
-                tuned_run(s, &b, 1);
+                tuned_run(s, seat, &b, 1);
                 (
-                (0, reference::step(&mut s, &mut b)),
-                (0, panel::step(&mut lent, &b.deck, memory.inner(), &b.protect, journal.inner())),
+                    (0, reference::step(&mut s, seat, &mut b)),
+                    (0, panel::step(&mut lent, seat, &b.deck, memory.inner(), &b.protect, journal.inner())),
                 )
             }
         };
         let same = ours == theirs && State::from(lent) == s && memory.is(&b.memory) && journal.is(&b.journal);
-        assert!(same, "call {k}: {ours:?} here, {theirs:?} in the panel library\n{s:?}\n{:?}\n{b:?}", State::from(lent));
+        assert!(
+            same,
+            "call {k} of seat {seat}: {ours:?} here, {theirs:?} in the panel library\n{s:?}\n{:?}\n{b:?}",
+            State::from(lent)
+        );
         // else every later call would be a 3 too
         if ours.1 == 3 {
             s = sound;
@@ -214,14 +234,21 @@ fn machine(r: &mut Random) -> u64 {
     calls
 }
 
+/// What a back step answers, as a run does: whose step it was, and 0 or the number of the stop.
+fn told(whose: Result<u32, u8>) -> (u32, u8) {
+    whose.map_or_else(|number| (0, number), |seat| (seat, 0))
+}
+
 /// What may happen between two calls; `back` if a back step comes next.
 fn disturb(r: &mut Random, s: &mut State, b: &mut Buffers, back: bool) {
-    if r.chance(20) {
+    while r.chance(20) {
         wild(r, s);
     }
     // most stops would come again at the same order
-    if r.chance(3) {
-        s.pointer = r.below((b.deck.len() as u64 / 4).max(1)) as u16;
+    for seat in &mut s.seats {
+        if r.chance(3) {
+            seat.pointer = r.below((b.deck.len() as u64 / 4).max(1)) as u16;
+        }
     }
     if r.chance(60) && !b.journal.is_empty() {
         let at = r.below(b.journal.len() as u64) as usize;
@@ -232,22 +259,25 @@ fn disturb(r: &mut Random, s: &mut State, b: &mut Buffers, back: bool) {
     }
 }
 
-/// Why the next step is stopped, asked of both; nothing is written.
-fn ask(s: State, b: &Buffers) {
+/// Why the next step of a seat is stopped, asked of both; nothing is written.
+fn ask(s: State, seat: u32, b: &Buffers) {
     let lent = Lent::from(s);
     let mut memory = Guarded::new(&b.memory, 0xA5A5);
     let mut journal = Guarded::new(&b.journal, 0xA5A5_A5A5);
-    let ours = reference::why(&s, b);
-    let theirs = panel::why(&lent, &b.deck, memory.inner(), &b.protect, journal.inner());
+    let ours = reference::why(&s, seat, b);
+    let theirs = panel::why(&lent, seat, &b.deck, memory.inner(), &b.protect, journal.inner());
     let same = ours == theirs && State::from(lent) == s && memory.is(&b.memory) && journal.is(&b.journal);
-    assert!(same, "why: {ours:?} here, {theirs:?} in the panel library\n{s:?}\n{b:?}");
+    assert!(same, "why, seat {seat}: {ours:?} here, {theirs:?} in the panel library\n{s:?}\n{b:?}");
 }
 
 /// The tuned run is held to the reference too.
-fn tuned_run(s: State, b: &Buffers, limit: u32) {
+fn tuned_run(s: State, seat: u32, b: &Buffers, limit: u32) {
     let (mut one, mut other) = ((s, b.clone()), (s, b.clone()));
-    let answers = (reference::run(&mut one.0, &mut one.1, limit), tuned::run(&mut other.0, &mut other.1, limit));
-    assert!(answers.0 == answers.1 && one == other, "{answers:?}: the tuned run differs\n{s:?}\n{b:?}");
+    let answers = (
+        reference::run(&mut one.0, seat, &mut one.1, limit),
+        tuned::run(&mut other.0, seat, &mut other.1, limit),
+    );
+    assert!(answers.0 == answers.1 && one == other, "{answers:?}: the tuned run of seat {seat} differs\n{s:?}\n{b:?}");
 }
 
 fn text(r: &mut Random) -> Vec<u8> {

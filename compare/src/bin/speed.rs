@@ -3,7 +3,7 @@
 //! of the rounds counts.
 use compare::panel::{self, Lent};
 use compare::random::Random;
-use compare::reference::{self, Buffers, State, MNEMONICS};
+use compare::reference::{self, Buffers, Seat, State, MNEMONICS};
 use compare::tuned;
 use std::hint::black_box;
 use std::time::Instant;
@@ -52,22 +52,24 @@ fn looped(orders: &[[u16; 4]]) -> Vec<u16> {
     orders.iter().copied().chain([[21, 7, 0, 0]]).flatten().collect()
 }
 
-/// The large number that JN counts down from, in both sets.
-fn counting(mut s: State) -> State {
-    s.general.iter_mut().for_each(|set| set[7] = u32::MAX);
+/// The large number that JN counts down from, in both sets of each seat.
+fn counting(seats: [Seat; 2]) -> State {
+    let mut s = State { seats, used: 0 };
+    s.seats.iter_mut().flat_map(|seat| &mut seat.general).for_each(|set| set[7] = u32::MAX);
     s
 }
 
-fn run(name: &'static str, orders: &[[u16; 4]], s: State, memory: Vec<u16>) -> Row {
-    let s = counting(s);
+/// A run of seat 0.
+fn run(name: &'static str, orders: &[[u16; 4]], seat: Seat, memory: Vec<u16>) -> Row {
+    let s = counting([seat, Seat::default()]);
     let n = memory.len();
     let b = Buffers { deck: looped(orders), memory, protect: vec![0; n.div_ceil(8)], journal: vec![0; 16_384] };
     let (mut c, mut d) = (b.clone(), b.clone());
     let (mut memory, mut journal) = (b.memory.clone(), b.journal.clone());
     let answers = [
-        reference::run(&mut s.clone(), &mut c.clone(), STEPS),
-        tuned::run(&mut s.clone(), &mut d.clone(), STEPS),
-        panel::run(&mut Lent::from(s), &b.deck, &mut memory.clone(), &b.protect, &mut journal.clone(), STEPS),
+        reference::run(&mut s.clone(), 0, &mut c.clone(), STEPS),
+        tuned::run(&mut s.clone(), 0, &mut d.clone(), STEPS),
+        panel::run(&mut Lent::from(s), 0, &b.deck, &mut memory.clone(), &b.protect, &mut journal.clone(), STEPS),
     ];
     assert_eq!(answers, [(STEPS, 0); 3]);
     measure(
@@ -77,17 +79,17 @@ fn run(name: &'static str, orders: &[[u16; 4]], s: State, memory: Vec<u16>) -> R
         [
             &mut || {
                 let mut lent = Lent::from(black_box(s));
-                black_box(panel::run(&mut lent, &b.deck, &mut memory, &b.protect, &mut journal, STEPS));
+                black_box(panel::run(&mut lent, black_box(0), &b.deck, &mut memory, &b.protect, &mut journal, STEPS));
                 black_box(&lent);
             },
             &mut || {
                 let mut s = black_box(s);
-                black_box(reference::run(&mut s, &mut c, STEPS));
+                black_box(reference::run(&mut s, black_box(0), &mut c, STEPS));
                 black_box(&s);
             },
             &mut || {
                 let mut s = black_box(s);
-                black_box(tuned::run(&mut s, &mut d, STEPS));
+                black_box(tuned::run(&mut s, black_box(0), &mut d, STEPS));
                 black_box(&s);
             },
         ],
@@ -96,18 +98,20 @@ fn run(name: &'static str, orders: &[[u16; 4]], s: State, memory: Vec<u16>) -> R
 
 /// A call for each step on the plain sides too: the panel library is called through C's conventions and cannot be inlined.
 #[inline(never)]
-fn plain_step(s: &mut State, b: &mut Buffers) -> u8 {
-    reference::step(s, b)
+fn plain_step(s: &mut State, seat: u32, b: &mut Buffers) -> u8 {
+    reference::step(s, seat, b)
 }
 
 #[inline(never)]
-fn tuned_step(s: &mut State, b: &mut Buffers) -> (u32, u8) {
-    tuned::run(s, b, 1)
+fn tuned_step(s: &mut State, seat: u32, b: &mut Buffers) -> (u32, u8) {
+    tuned::run(s, seat, b, 1)
 }
 
-/// Single calls, as a step key makes them.
-fn stepping(name: &'static str, orders: &[[u16; 4]], s: State, memory: Vec<u16>) -> Row {
-    let s = counting(s);
+/// Single calls, as a step key makes them: of one user, at seat 0, or of two in turn.
+fn stepping(name: &'static str, orders: &[[u16; 4]], users: &[Seat], memory: Vec<u16>) -> Row {
+    let mut seats = [Seat::default(); 2];
+    seats[..users.len()].copy_from_slice(users);
+    let (s, last) = (counting(seats), users.len() as u32 - 1);
     let n = memory.len();
     let b = Buffers { deck: looped(orders), memory, protect: vec![0; n.div_ceil(8)], journal: vec![0; 16_384] };
     let (mut c, mut d) = (b.clone(), b.clone());
@@ -118,23 +122,23 @@ fn stepping(name: &'static str, orders: &[[u16; 4]], s: State, memory: Vec<u16>)
         STEPS as f64,
         [
             &mut || {
-                let mut lent = Lent::from(black_box(s));
-                for _ in 0..STEPS {
-                    assert_eq!(panel::step(&mut lent, &b.deck, &mut memory, &b.protect, &mut journal), 0);
+                let (mut lent, last) = (Lent::from(black_box(s)), black_box(last));
+                for k in 0..STEPS {
+                    assert_eq!(panel::step(&mut lent, k & last, &b.deck, &mut memory, &b.protect, &mut journal), 0);
                 }
                 black_box(&lent);
             },
             &mut || {
-                let mut s = black_box(s);
-                for _ in 0..STEPS {
-                    assert_eq!(plain_step(&mut s, &mut c), 0);
+                let (mut s, last) = (black_box(s), black_box(last));
+                for k in 0..STEPS {
+                    assert_eq!(plain_step(&mut s, k & last, &mut c), 0);
                 }
                 black_box(&s);
             },
             &mut || {
-                let mut s = black_box(s);
-                for _ in 0..STEPS {
-                    assert_eq!(tuned_step(&mut s, &mut d), (1, 0));
+                let (mut s, last) = (black_box(s), black_box(last));
+                for k in 0..STEPS {
+                    assert_eq!(tuned_step(&mut s, k & last, &mut d), (1, 0));
                 }
                 black_box(&s);
             },
@@ -142,8 +146,8 @@ fn stepping(name: &'static str, orders: &[[u16; 4]], s: State, memory: Vec<u16>)
     )
 }
 
-fn floats(r: &mut Random, mask: u32) -> State {
-    let mut s = State::default();
+fn floats(r: &mut Random, mask: u32) -> Seat {
+    let mut s = Seat::default();
     for k in 0..8 {
         // near one, so that no quotient leaves the range
         s.float[k] = 0x4100_0000 | r.next() as u32 & mask | 1;
@@ -374,7 +378,7 @@ fn main() {
             ]
         })
         .collect();
-    let mut two_tables = State::default();
+    let mut two_tables = Seat::default();
     (two_tables.general[0][5], two_tables.general[1][5]) = (0x7fff_0004, 0x8000_0010);
     let rows = [
         run("(a) a mixed deck with loops", &mixed, floats(r, 0x80ff_ffff), words(r, 0xff_ffff)),
@@ -382,7 +386,7 @@ fn main() {
         run("(c) long divides, unnormalised", &longs, floats(r, 0x800f_ffff), unnormalised.clone()),
         run("(d) short compares", &short_compares, floats(r, 0x80ff_ffff), vec![0; 64]),
         run("(e) loads and stores", &moves, floats(r, 0x80ff_ffff), words(r, 0xff_ffff)),
-        stepping("(f) single steps of the mixed deck", &mixed, floats(r, 0x80ff_ffff), words(r, 0xff_ffff)),
+        stepping("(f) single steps of the mixed deck", &mixed, &[floats(r, 0x80ff_ffff)], words(r, 0xff_ffff)),
         reading(r),
         run("(h) short sums", &short_sums, walking, vec![0; 64]),
         run("(i) long sums, unnormalised", &long_sums, floats(r, 0x800f_ffff), addends),
@@ -395,6 +399,12 @@ fn main() {
         charting("(p) the chart of orders, bound 1", 1),
         searching("(q) unset registers, half in use", &half_used(), [4_095, 0, 7]),
         searching("(r) unset registers, one at a time", &one_by_one(), [4_095, 1, 7]),
+        stepping(
+            "(s) single steps, two seats in turn",
+            &mixed,
+            &[floats(r, 0x80ff_ffff), floats(r, 0x80ff_ffff)],
+            words(r, 0xff_ffff),
+        ),
     ];
     println!("{:<36} {:>8} {:>8} {:>8} {:>9} {:>9}", "", "proved", "plain", "tuned", "to plain", "to tuned");
     for r in &rows {
