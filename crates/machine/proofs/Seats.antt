@@ -18,6 +18,7 @@ use Rattle.machine.specs.Journal.{encoded, written}
 use Rattle.machine.specs.Machine.{machine, beforeOf, committed}
 use Rattle.machine.specs.Run.{stepsOf}
 use Rattle.machine.specs.Seats.{registersOf, otherOf, seated}
+use Rattle.machine.specs.Step.{stepped}
 use Rattle.machine.proofs.Checks.{held-swap}
 
 module _ (k : ℕ) (g o : Registers) (used : ℕ) where
@@ -94,8 +95,13 @@ pub committed-seated :
     committed k e (machine (seated k g o used) m j)
 committed-seated k g o used m j e = rw (registers-seated k g o used, other-seated k g o used)
 
--- steps from the parts of a state are steps from it
-pub steps-seated :
-    (d : List ℕ) (p : ProtectList) (k limit : ℕ) (s : State) (m j : List ℕ) (g o : Registers) → g ≡ registersOf k s → o ≡ otherOf k s →
-    stepsOf d p k limit (machine (seated k g o (s .used)) m j) ≡ stepsOf d p k limit (machine s m j)
-steps-seated d p k limit s m j g o hg ho = rw (hg, ho, seated-own k s)
+-- calls from the parts of a state are calls from it
+module _ (d : List ℕ) (p : ProtectList) (k : ℕ) (s : State) (m j : List ℕ) (g o : Registers) (hg : g ≡ registersOf k s) (ho : o ≡ otherOf k s) where
+  parts : machine (seated k g o (s .used)) m j ≡ machine s m j
+  parts = rw (hg, ho, seated-own k s)
+
+  pub steps-seated : (limit : ℕ) → stepsOf d p k limit (machine (seated k g o (s .used)) m j) ≡ stepsOf d p k limit (machine s m j)
+  steps-seated limit = ap (stepsOf d p k limit) parts
+
+  pub stepped-seated : stepped d p k (machine (seated k g o (s .used)) m j) ≡ stepped d p k (machine s m j)
+  stepped-seated = ap (stepped d p k) parts

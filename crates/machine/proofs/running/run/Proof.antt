@@ -45,7 +45,7 @@ returns-2 c =
     let checks = c .before .before .before .before .before .before .before .before .before .before .before .before .before .before .entry in
     let zero = sym (c .before .before .before .before .before .before .before .before .before .before .before .before .before .number .ensures) ∙ c .before .before .before .before .before .before .before .before .before .before .before .before .if1 .left in
     rw (c .assemble .ensures, ← checks .ensures, eq-eqb (numberOf (checks .result)) 0 zero)
-    (c .before .before .before .before .before .advance .ensures (c .before .before .before .before .before .before .before .before .before .before .before .before .before .before .before .before .before .other-of .result) refl ∙ steps-seated _ _ _ _ _ _ _ _ _ (c .before .before .before .before .before .before .before .before .before .before .before .before .before .before .before .before .before .before .registers-of .ensures) (c .before .before .before .before .before .before .before .before .before .before .before .before .before .before .before .before .before .other-of .ensures))
+    (c .before .before .before .before .before .advance .ensures (c .before .before .before .before .before .before .before .before .before .before .before .before .before .before .before .before .before .other-of .result) refl ∙ steps-seated _ _ _ _ _ _ _ _ (c .before .before .before .before .before .before .before .before .before .before .before .before .before .before .before .before .before .before .registers-of .ensures) (c .before .before .before .before .before .before .before .before .before .before .before .before .before .before .before .before .before .other-of .ensures) _)
 
 pub run-spec : {M : Type 1} → statement M
 run-spec = tie.close (tie.spec registers-of-requires other-of-requires entry-requires number-requires returns advance-requires assemble-requires same-length same-length-2 returns-2)

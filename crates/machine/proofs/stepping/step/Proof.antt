@@ -1,9 +1,8 @@
--- `machine::stepping::step` meets its contract: at most one step is a step.
+-- `machine::stepping::step` meets its contract: a step of the seat, beside the other.
 -- Assumes nothing.
 use borrow.Author.Needs.{needs}
 use mathlib.Core.Path.{refl, _∙_}
-use Rattle.machine.proofs.Runs.{one-step}
-use Rattle.machine.proofs.Seats.{steps-seated}
+use Rattle.machine.proofs.Seats.{stepped-seated}
 use Rattle.machine.proofs.stepping.step.Statement.{statement}
 use Rattle.machine.proofs.stepping.step.Tie as tie
 
@@ -13,11 +12,11 @@ registers-of-requires c κs = search needs
 other-of-requires : tie.Need-other-of-requires
 other-of-requires c κs = search needs
 
-advance-requires : tie.Need-advance-requires
-advance-requires c κs = search needs
+step-seat-requires : tie.Need-step-seat-requires
+step-seat-requires c κs = search needs
 
-assemble-requires : tie.Need-assemble-requires
-assemble-requires c κs = search needs
+seat-down-requires : tie.Need-seat-down-requires
+seat-down-requires c κs = search needs
 
 same-length : tie.Need-same-length
 same-length c = search needs
@@ -27,9 +26,8 @@ same-length-2 c = search needs
 
 returns : tie.Need-returns
 returns c =
-    rw (c .assemble .ensures)
-    (one-step _ _ _ _ _ _ _
-    (c .before .before .before .before .before .advance .ensures (c .before .before .before .before .before .before .before .before .before .before .before .before .before .before .other-of .result) refl ∙ steps-seated _ _ _ _ _ _ _ _ _ (c .before .before .before .before .before .before .before .before .before .before .before .before .before .before .before .registers-of .ensures) (c .before .before .before .before .before .before .before .before .before .before .before .before .before .before .other-of .ensures)))
+    rw (c .seat-down .ensures)
+    (c .before .before .before .before .before .before .step-seat .ensures (c .before .before .before .before .before .before .before .before .before .before .other-of .result) refl ∙ stepped-seated _ _ _ _ _ _ _ _ (c .before .before .before .before .before .before .before .before .before .before .before .registers-of .ensures) (c .before .before .before .before .before .before .before .before .before .before .other-of .ensures))
 
 pub step-spec : {M : Type 1} → statement M
-step-spec = tie.close (tie.spec registers-of-requires other-of-requires advance-requires assemble-requires same-length same-length-2 returns)
+step-spec = tie.close (tie.spec registers-of-requires other-of-requires step-seat-requires seat-down-requires same-length same-length-2 returns)
