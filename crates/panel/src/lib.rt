@@ -1,5 +1,5 @@
-// The bench panel's functions, for C. Those over a lent state copy it out, call the function on
-// values, and store the state that comes back. None has a `requires`. What a call answers comes back
+// The bench panel's functions, for C. Those over a lent state copy out what the function on values
+// takes, and store what comes back. None has a `requires`. What a call answers comes back
 // by value, so that a refusal writes nothing at all.
 mod finding;
 mod value;
@@ -40,7 +40,8 @@ pub extern "C" fn panel_fresh(state: &mut State)
     *state = machine::fresh();
 }
 
-// One order of a seat; 0, or the number of the stop.
+// One order of a seat; 0, or the number of the stop. A step changes one seat at most, and copying the
+// whole state would take longer than it: only that seat and the other's status are copied.
 #[no_mangle]
 pub extern "C" fn panel_step(
     state: &mut State,
@@ -53,8 +54,22 @@ pub extern "C" fn panel_step(
     ensures { λ r. ⌜ single (machine (now (state .exit)) (now (memory .exit)) (now (journal .exit))) r
         ≡ stepped (now (deck .entry)) (bitwise (now (protect .entry))) seat (machine (now (state .entry)) (now (memory .entry)) (now (journal .entry))) ⌝ }
 {
-    let stepped = step_by_value(*state, seat, deck, memory, protect, journal);
-    *state = stepped.state;
+    let own;
+    let other;
+    if seat == 0 {
+        own = state.seat0;
+        other = state.seat1.status;
+    } else {
+        own = state.seat1;
+        other = state.seat0.status;
+    }
+    let stepped = step_by_value(own, other, seat, state.used, deck, memory, protect, journal);
+    if seat == 0 {
+        state.seat0 = stepped.registers;
+    } else {
+        state.seat1 = stepped.registers;
+    }
+    state.used = stepped.used;
     stepped.number
 }
 

@@ -2,11 +2,14 @@
 use cause::Cause;
 use cause::Cell;
 use cause::Named;
+use machine::Registers;
 use machine::State;
+use machine::Status;
 use machine::Whose;
 ghost use mathlib.Core.Path.{_≡_};
 ghost use Rattle.protection.specs.Bits.{bitwise};
 ghost use Rattle.machine.specs.Machine.{machine};
+ghost use Rattle.machine.specs.Seats.{seated, Beside};
 ghost use Rattle.machine.specs.Step.{single, stepped, outcome};
 ghost use Rattle.machine.specs.Run.{ran};
 ghost use Rattle.machine.specs.Back.{backed};
@@ -15,8 +18,10 @@ ghost use Rattle.cause.specs.Cell.{placeOf};
 ghost use Rattle.panel.specs.Back.{seatSaid, TakenBack};
 ghost use Rattle.panel.specs.Explain.{explanationOf};
 
+// What a step leaves of its seat, and the number of how it ended.
 pub struct Stepped {
-    pub state: State,
+    pub registers: Registers,
+    pub used: u32,
     pub number: u8,
 }
 
@@ -33,22 +38,26 @@ pub struct Answered {
     pub answer: Answer,
 }
 
+// Of one seat, so that a caller who lends a state copies no more of it than steps, and of the other seat the status.
 pub fn step_by_value(
-    s: State,
+    own: Registers,
+    other: Status,
     seat: u32,
+    used: u32,
     deck: &[u16],
     memory: &mut [u16],
     protect: &[u8],
     journal: &mut [u32],
 ) -> Stepped
-    ensures { λ r. ⌜ single (machine (r .state) (now (memory .exit)) (now (journal .exit))) (r .number)
-        ≡ stepped (now (deck .entry)) (bitwise (now (protect .entry))) seat (machine s (now (memory .entry)) (now (journal .entry))) ⌝ }
+    ensures { λ r. ⌜ Beside other (λ o. single (machine (seated seat (r .registers) o (r .used)) (now (memory .exit)) (now (journal .exit))) (r .number)
+        ≡ stepped (now (deck .entry)) (bitwise (now (protect .entry))) seat (machine (seated seat own o used) (now (memory .entry)) (now (journal .entry)))) ⌝ }
 {
-    let r = machine::step(s, seat, deck, memory, protect, journal);
-    let state = r.state;
+    let r = machine::step_seat(own, other, seat, used, deck, memory, protect, journal);
+    let registers = r.registers;
     let stop = r.stop;
     Stepped {
-        state,
+        registers,
+        used: r.used,
         number: machine::number(stop),
     }
 }
