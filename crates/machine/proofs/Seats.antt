@@ -1,6 +1,6 @@
 -- The registers of a seat within the state.
 use Prim.Native.Nat.{ℕ, _+_, _/_}
-use mathlib.Core.Path.{_≡_, refl, sym, ap, _∙_}
+use mathlib.Core.Path.{_≡_, refl, sym, ap, ap₂, _∙_}
 use mathlib.Core.List.{List}
 use mathlib.Core.Bool.{Bool, true, false, cond}
 use lib.Dec.{eqb, ltb}
@@ -21,22 +21,19 @@ use Rattle.machine.specs.Seats.{registersOf, otherOf, seated}
 use Rattle.machine.specs.Step.{stepped}
 use Rattle.machine.proofs.Checks.{held-swap}
 
+-- a test that exchanges two, and then chooses of them, finds the first again
+twice-chosen : (b : Bool) (x y : Registers) → cond b (cond b x y) (cond b y x) ≡ x
+twice-chosen true x y = refl
+twice-chosen false x y = refl
+
 module _ (k : ℕ) (g o : Registers) (used : ℕ) where
   pub registers-seated : registersOf k (seated k g o used) ≡ g
   unfolding registersOf
-  registers-seated = cases (eqb k 0)
-    where
-      cases : (b : Bool) → cond b (cond b g o) (cond b o g) ≡ g
-      cases true = refl
-      cases false = refl
+  registers-seated = twice-chosen (eqb k 0) g o
 
   pub other-seated : otherOf k (seated k g o used) ≡ o
   unfolding otherOf
-  other-seated = cases (eqb k 0)
-    where
-      cases : (b : Bool) → cond b (cond b o g) (cond b g o) ≡ o
-      cases true = refl
-      cases false = refl
+  other-seated = twice-chosen (eqb k 0) o g
 
   -- checks 2 and 3 look at both seats alike
   pub held-seated : (p : ProtectList) (memory journal : ℕ) → heldIn p (seated k g o used) memory journal ≡ heldStop p (g .status) (o .status) used memory journal
@@ -46,14 +43,15 @@ module _ (k : ℕ) (g o : Registers) (used : ℕ) where
       cases true = refl
       cases false = held-swap p (o .status) (g .status) used memory journal
 
+-- the state of these registers
+abbrev both : Registers → Registers → ℕ → State
+both x y used = record { seat0 = x; seat1 = y; used = used }
+
 -- a seat's registers and the other's are the state
 pub seated-own : (k : ℕ) (s : State) → seated k (registersOf k s) (otherOf k s) (s .used) ≡ s
 unfolding registersOf otherOf
-seated-own k s = cases (eqb k 0)
-  where
-    cases : (b : Bool) → _≡_ {A = State} (record { seat0 = cond b (cond b (s .seat0) (s .seat1)) (cond b (s .seat1) (s .seat0)); seat1 = cond b (cond b (s .seat1) (s .seat0)) (cond b (s .seat0) (s .seat1)); used = s .used }) s
-    cases true = refl
-    cases false = refl
+seated-own k s =
+    ap₂ (λ (x y : Registers). both x y (s .used)) (twice-chosen (eqb k 0) (s .seat0) (s .seat1)) (twice-chosen (eqb k 0) (s .seat1) (s .seat0))
 
 -- what checks 2 and 3 say of a state, they say of a seat and the other
 pub held-own : (k : ℕ) (s : State) (p : ProtectList) (memory journal : ℕ) → heldIn p s memory journal ≡ heldStop p (registersOf k s .status) (otherOf k s .status) (s .used) memory journal
