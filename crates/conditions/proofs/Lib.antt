@@ -4,10 +4,12 @@ pub mod Calls
 pub mod Counted
 pub mod Decisions
 pub mod Entries
+pub mod Journals
 pub mod Keeps
 pub mod Leaves
 pub mod Links
 pub mod Numbers
+pub mod Onward
 pub mod Others
 pub mod Packed
 pub mod Protected

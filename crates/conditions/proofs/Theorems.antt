@@ -3,8 +3,10 @@ use Rattle.protection.specs.Bits.{bitwise}
 use Rattle.conditions.specs.Theorems.{Theorems}
 use Rattle.conditions.proofs.Absent.{absent-above}
 use Rattle.conditions.proofs.Apart.{apart-alone, starts-as}
+use Rattle.conditions.proofs.Journals.{run-leaves, back-leaves-journal}
 use Rattle.conditions.proofs.Leaves.{leaves-all}
 use Rattle.conditions.proofs.Numbers.{one-of-the-numbers, zero-is-taken}
+use Rattle.conditions.proofs.Onward.{moves-on}
 use Rattle.conditions.proofs.Others.{leaves-other}
 use Rattle.conditions.proofs.Packed.{same-over, as-before}
 use Rattle.conditions.proofs.Protected.{protected-keeps}
@@ -30,6 +32,8 @@ theorems = record {
   one-of-the-numbers = one-of-the-numbers;
   read-by-form = read-by-form;
   zero-is-taken = zero-is-taken;
+  run-journal = run-leaves;
+  back-journal = back-leaves-journal;
   one-record = one-record;
   same-over = same-over;
   as-before = as-before;
@@ -37,6 +41,7 @@ theorems = record {
   unindexed = λ d p x none. unindexed d p none x;
   one-set = one-set;
   round-trip = round-trip;
+  moves-on = moves-on;
   unwritten-kept = unwritten-kept;
   unread-free = unread-free;
   leaves-other = leaves-other;

@@ -172,6 +172,11 @@ pub record OneRecord (p : ProtectList) (k : ℕ) (x : Machine) (e : Effect) : Ty
   pub above : (i : ℕ) → x .state .used * 4 + 4 ≤ i → getD (committed k e x .journal) i 0 ≡ getD (x .journal) i 0
   pub back : backed p (committed k e x) ≡ undone (machine (x .state) (x .memory) (committed k e x .journal)) k
 
+-- Journal l is journal j, but for the words from n on: these are free, and there are as many of them as before.
+pub record KeptBelow (n : ℕ) (j l : List ℕ) : Type 0 where
+  pub words : length l ≡ length j
+  pub below : (i : ℕ) → i < n → getD l i 0 ≡ getD j i 0
+
 -- Two machines do the same from x on: every call has the same answer and leaves the same state, memory and journal, and so has every list of calls.
 pub record SameCalls (f g : Call → Machine → Outcome Machine) (x : Machine) : Type 0 where
   pub call : (c : Call) → f c x ≡ g c x
@@ -328,6 +333,10 @@ pub record Theorems : Type 0 where
   pub one-of-the-numbers : (d : List ℕ) (p : ProtectList) (x : Machine) → OneOfTheNumbers d p x
   pub read-by-form : (q : Record) (e : Effect) → ReadByForm q e
   pub zero-is-taken : (d : List ℕ) (p : ProtectList) (x : Machine) → ZeroIsTaken d p x
+  -- a run writes no journal word below those of its first record, and a back step none at all
+  pub run-journal :
+      (d : List ℕ) (p : ProtectList) (k limit : ℕ) (x : Machine) → KeptBelow (x .state .used * 4) (x .journal) (ran d p k limit x .after .journal)
+  pub back-journal : (p : ProtectList) (x : Machine) → backed p x .after .journal ≡ x .journal
   pub one-record : (d : List ℕ) (p : ProtectList) (k : ℕ) (x : Machine) (e : Effect) → Typed (x .memory) → verdictOf d p k x ≡ gives e → OneRecord p k x e
   -- the protect list enters by what it says of memory's halfwords and by nothing else
   pub same-over : (d : List ℕ) (p q : ProtectList) (x : Machine) → Alike (length (x .memory)) p q → SameOver d p q x
@@ -343,6 +352,10 @@ pub record Theorems : Type 0 where
   pub round-trip :
       (d : List ℕ) (p : ProtectList) (k : ℕ) (x : Machine) (r1 r2 g : ℕ) → TypedRegisters (registersOf k (x .state)) → nextOrder d k x ≡ cvfl r1 r2 →
       orderAt d (pointerOf k (x .state) + 1) ≡ cvfx g r1 → RoundTrip d p k x r2 g
+  -- 'Any other step moves the pointer on by one' (document 01, 'Orders'): any but JC and JN, codes 20 and 21
+  pub moves-on :
+      (d : List ℕ) (p : ProtectList) (k : ℕ) (x : Machine) → (nextOrder d k x .code ≡ 20 → ⊥) → (nextOrder d k x .code ≡ 21 → ⊥) → stepped d p k x .stop ≡ 0 →
+      pointerOf k (stepped d p k x .after .state) ≡ pointerOf k (x .state) + 1
   -- The table of what orders read and write (document 02, Job 11): a step changes no register that its order is not said to write,
   pub unwritten-kept :
       (d : List ℕ) (p : ProtectList) (k : ℕ) (x : Machine) (r : Register) → (NextWrites d k x r → ⊥) →
