@@ -33,7 +33,7 @@ fn with_registers(t: Line, g: Registers) -> Line {
 }
 
 // The used count and both seats.
-fn with_state(t: Line, s: State) -> Line {
+pub fn with_state(t: Line, s: State) -> Line {
     let seat0 = s.seat0;
     let seat1 = s.seat1;
     with_registers(with_registers(with_decimal(t, s.used), seat0), seat1)

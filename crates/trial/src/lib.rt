@@ -10,6 +10,7 @@ mod input;
 mod line;
 mod listing;
 
+pub use answer::with_state;
 pub use calling::Called;
 pub use calling::call;
 pub use case::Case;

@@ -1,0 +1,6 @@
+pub mod Jump
+pub mod Trial
+pub mod Stretch
+pub mod Answer
+pub mod Search
+pub mod Theorems
