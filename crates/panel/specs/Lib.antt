@@ -3,3 +3,4 @@ pub mod Reply
 pub mod Explain
 pub mod Chart
 pub mod Unset
+pub mod Stretch

@@ -2,12 +2,15 @@
 // takes, and store what comes back. None has a `requires`. What a call answers comes back
 // by value, so that a refusal writes nothing at all.
 mod finding;
+mod interval;
 mod value;
 
 use chart::Charted;
 use decktext::Reading;
 use finding::Finding;
 use finding::told;
+use interval::Interval;
+use interval::stretch_by_value;
 use machine::State;
 use value::Answer;
 use value::Explanation;
@@ -30,6 +33,7 @@ ghost use Rattle.panel.specs.Back.{TakenBack};
 ghost use Rattle.panel.specs.Chart.{pieceOf};
 ghost use Rattle.panel.specs.Explain.{explanationOf};
 ghost use Rattle.panel.specs.Reply.{reply, replied};
+ghost use Rattle.panel.specs.Stretch.{TellsStretch};
 ghost use Rattle.panel.specs.Unset.{Tells};
 
 // The state of a machine that was just switched on.
@@ -179,4 +183,21 @@ pub extern "C" fn panel_unset(deck: &[u16]) -> Finding
     ensures { λ r. ⌜ Tells (now (deck .entry)) r ⌝ }
 {
     told(unset::first_unset(deck))
+}
+
+// The shortest stretch of orders, from a seat's pointer on, that still stops as the run from there does. Trials are made on
+// the lent memory and journal and taken back, so the state is only read.
+#[no_mangle]
+pub extern "C" fn panel_stretch(
+    state: &State,
+    seat: u32,
+    deck: &[u16],
+    memory: &mut [u16],
+    protect: &[u8],
+    journal: &mut [u32],
+) -> Interval
+    ensures { λ r. ⌜ TellsStretch (now (deck .entry)) (bitwise (now (protect .entry))) seat (machine (now (state .entry)) (now (memory .entry)) (now (journal .entry)))
+        (machine (now (state .entry)) (now (memory .exit)) (now (journal .exit))) r ⌝ }
+{
+    stretch_by_value(*state, seat, deck, memory, protect, journal)
 }
