@@ -23,4 +23,12 @@ impl<T: Copy + PartialEq> Guarded<T> {
         self.all[ZONE..end] == *inner
             && self.all[..ZONE].iter().chain(&self.all[end..]).all(|x| *x == self.guard)
     }
+
+    /// The same for a buffer whose elements from `free` on may be anything.
+    pub fn is_below(&self, free: usize, inner: &[T]) -> bool {
+        let mut all = inner.to_vec();
+        let end = self.all.len() - ZONE;
+        all[free..].copy_from_slice(&self.all[ZONE + free..end]);
+        self.is(&all)
+    }
 }

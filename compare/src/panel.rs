@@ -48,6 +48,14 @@ struct Finding {
 }
 
 #[repr(C)]
+struct Interval {
+    number: u32,
+    first: u32,
+    last: u32,
+    stop: u32,
+}
+
+#[repr(C)]
 #[derive(Clone, Copy)]
 pub struct Lent {
     seats: [Registers; 2],
@@ -114,6 +122,18 @@ extern "C" {
     ) -> Answer;
     fn panel_chart(bound: u16, rank: u32, cells: *mut u16, cells_len: usize) -> Piece;
     fn panel_unset(deck: *const u16, deck_len: usize) -> Finding;
+    fn panel_stretch(
+        state: *const Lent,
+        seat: u32,
+        deck: *const u16,
+        deck_len: usize,
+        memory: *mut u16,
+        memory_len: usize,
+        protect: *const u8,
+        protect_len: usize,
+        journal: *mut u32,
+        journal_len: usize,
+    ) -> Interval;
 }
 
 impl From<Seat> for Registers {
@@ -279,5 +299,40 @@ pub fn unset(deck: &[u16]) -> Result<Option<[u32; 3]>, u8> {
     match f.number {
         0 => Ok(None),
         n => Err(n as u8),
+    }
+}
+
+/// The first order and the last of the shortest stretch, and the number that it stops by, or the number of the refusal. What is
+/// not named is 0.
+#[inline]
+pub fn stretch(
+    s: &Lent,
+    seat: u32,
+    deck: &[u16],
+    memory: &mut [u16],
+    protect: &[u8],
+    journal: &mut [u32],
+) -> Result<[u32; 3], u8> {
+    let i = unsafe {
+        panel_stretch(
+            s,
+            seat,
+            deck.as_ptr(),
+            deck.len(),
+            memory.as_mut_ptr(),
+            memory.len(),
+            protect.as_ptr(),
+            protect.len(),
+            journal.as_mut_ptr(),
+            journal.len(),
+        )
+    };
+    let named = [i.first, i.last, i.stop];
+    match i.number {
+        0 => Ok(named),
+        n => {
+            assert_eq!(named, [0; 3]);
+            Err(n as u8)
+        }
     }
 }

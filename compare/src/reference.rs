@@ -933,3 +933,37 @@ pub fn unset(deck: &[u16]) -> Result<Option<[u32; 3]>, u8> {
     // of several with the lowest order the first one counts
     Ok(found.min_by_key(|(p, _)| *p).map(|(p, k)| [p, k / 8, k % 8]))
 }
+
+// ---- the shortest stretch that still stops
+
+/// A run of a seat from an order with all else as it is, taken back: how many steps it took, and its stop.
+fn trial(s: &State, seat: u32, b: &mut Buffers, first: u16, limit: u32) -> (u32, u8) {
+    let mut there = *s;
+    there.seats[seat as usize].pointer = first;
+    let ran = run(&mut there, seat, b, limit);
+    for _ in 0..ran.0 {
+        back(&mut there, b).expect("the step was just taken");
+    }
+    ran
+}
+
+/// The first order and the last of the shortest stretch, and the number that it stops by; or the number of the refusal. Memory
+/// is left as it was, and so is the journal up to the used count.
+pub fn stretch(s: &State, seat: u32, b: &mut Buffers) -> Result<[u32; 3], u8> {
+    entry(s, seat, b.deck.len(), b.memory.len(), b.protect.len(), b.journal.len())?;
+    if b.deck.chunks_exact(4).any(|order| matches!(order[0], 20 | 21)) {
+        return Err(21);
+    }
+    let pointer = s.seats[seat as usize].pointer;
+    let (count, stop) = trial(s, seat, b, pointer, u32::MAX);
+    if !(6..=11).contains(&stop) {
+        return Err(21);
+    }
+    let last = pointer + count as u16;
+    let found = (pointer..=last).rev().find(|first| {
+        let others = (last - first) as u32;
+        trial(s, seat, b, *first, others + 1) == (others, stop)
+    });
+    let first = found.expect("the whole run stops so");
+    Ok([first as u32, last as u32, stop as u32])
+}

@@ -840,3 +840,38 @@ pub fn unset(deck: &[u16]) -> Result<Option<[u32; 3]>, u8> {
     }
     Ok(None)
 }
+
+/// The shortest stretch that still stops, by trials on copies: nothing is taken back, and memory is copied again only where an
+/// order of the deck stores to it.
+pub fn stretch(s: &State, seat: u32, b: &Buffers) -> Result<[u32; 3], u8> {
+    let mut copy = b.clone();
+    let (_, refused) = run(&mut s.clone(), seat, &mut copy, 0);
+    if refused != 0 {
+        return Err(refused);
+    }
+    let codes = || b.deck.iter().step_by(4);
+    if codes().any(|code| matches!(code, 20 | 21)) {
+        return Err(21);
+    }
+    let stores = codes().any(|code| matches!(code, 15 | 16 | 18));
+    let mut trial = |first: u16, limit: u32| {
+        let mut there = *s;
+        there.seats[seat as usize].pointer = first;
+        let ran = run(&mut there, seat, &mut copy, limit);
+        if stores {
+            copy.memory.copy_from_slice(&b.memory);
+        }
+        ran
+    };
+    let pointer = s.seats[seat as usize].pointer;
+    let (count, stop) = trial(pointer, u32::MAX);
+    if !(6..=11).contains(&stop) {
+        return Err(21);
+    }
+    let last = pointer + count as u16;
+    let mut first = last;
+    while first > pointer && trial(first, (last - first) as u32 + 1) != ((last - first) as u32, stop) {
+        first -= 1;
+    }
+    Ok([first as u32, last as u32, stop as u32])
+}

@@ -423,6 +423,65 @@ fn questioning(r: &mut Random) -> u64 {
     1
 }
 
+/// A deck in which jumps are seldom and most orders can be taken, so that runs come to a stop from 6 to 11 after some steps.
+fn straight(r: &mut Random, memory: u64) -> Vec<u16> {
+    let orders = if r.chance(300) { 4_096 } else { r.below(40) + 1 };
+    let jumps = r.chance(12);
+    (0..orders).flat_map(|_| loop {
+        let cells = order(r, orders, memory);
+        let often_stops = matches!(cells[0], 11..=14);
+        let jump = matches!(cells[0], 20 | 21);
+        if (!often_stops || r.chance(3)) && (!jump || jumps) && (reference::legal(cells) || r.chance(20)) {
+            break cells;
+        }
+    }).collect()
+}
+
+/// The shortest stretch that still stops. State and memory are as they were after it, and the journal up to the used count, which
+/// is often above 0; a refusal but 21 writes no word of it at all. The length that was found, where one was.
+fn stretching(r: &mut Random) -> Option<u32> {
+    let mut b = buffers(r);
+    if r.chance(8) {
+        b.memory.truncate(0);
+        b.memory.resize(64, 0x4110);
+        b.protect = vec![0; 8];
+    }
+    b.deck = straight(r, b.memory.len() as u64);
+    if r.chance(3) {
+        b.journal = (0..4 * r.below(60) + r.below(4)).map(|_| r.next() as u32).collect();
+    }
+    if r.chance(2) || b.deck.len() > 1_000 {
+        b.journal.resize(16_384, 0);
+    }
+    let mut s = state(r);
+    if !r.chance(3) {
+        alike(r, &mut s, &mut b.memory);
+    }
+    let seat = whose_turn(r);
+    s.used = r.below(b.journal.len() as u64 / 4 + 1).min(r.below(9)) as u32;
+    for seat in &mut s.seats {
+        seat.pointer = r.below(b.deck.len() as u64 / 4) as u16 >> r.below(8);
+    }
+    while r.chance(20) {
+        wild(r, &mut s);
+    }
+    let lent = Lent::from(s);
+    let mut memory = Guarded::new(&b.memory, 0xA5A5);
+    let mut journal = Guarded::new(&b.journal, 0xA5A5_A5A5);
+    let theirs = panel::stretch(&lent, seat, &b.deck, memory.inner(), &b.protect, journal.inner());
+    let quick = tuned::stretch(&s, seat, &b);
+    let before = b.clone();
+    let ours = reference::stretch(&s, seat, &mut b);
+    assert!(ours == quick, "{ours:?}, and in the tuned search {quick:?}, seat {seat}\n{s:?}\n{before:?}");
+    let free = match theirs {
+        Err(20 | 1..=3) => before.journal.len(),
+        _ => 4 * s.used as usize,
+    };
+    let same = ours == theirs && State::from(lent) == s && memory.is(&before.memory) && journal.is_below(free, &before.journal);
+    assert!(same, "stretch, seat {seat}: {ours:?} here, {theirs:?} in the panel library\n{s:?}\n{before:?}");
+    ours.ok().map(|[first, last, _]| last - first + 1)
+}
+
 fn main() {
     let seed = std::env::args().nth(1).and_then(|s| s.parse().ok()).unwrap_or(20_261_115);
     let mut r = Random::new(seed);
@@ -430,6 +489,7 @@ fn main() {
     panel::fresh(&mut lent);
     assert!(State::from(lent) == State::default());
     let (mut calls, mut texts, mut charts, mut searches) = (1, 0, 0, 0);
+    let (mut stretches, mut found, mut long) = (0, 0, 0);
     while calls < CALLS {
         if r.chance(3) {
             texts += 1;
@@ -445,9 +505,17 @@ fn main() {
             searches += 1;
             calls += questioning(&mut r);
         }
+        if r.chance(2) {
+            let length = stretching(&mut r);
+            calls += 1;
+            stretches += 1;
+            found += length.is_some() as u64;
+            long += length.is_some_and(|n| n > 1) as u64;
+        }
     }
     println!(
         "{calls} calls, {texts} of them texts, {charts} pieces of a chart, {searches} searches for registers that are not set, \
-         and before each other one the question why: 0 differences (seed {seed})"
+         {stretches} for the shortest stretch ({found} found, {long} of them of several orders), and before each other one the \
+         question why: 0 differences (seed {seed})"
     );
 }

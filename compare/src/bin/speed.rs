@@ -249,6 +249,50 @@ fn searching(name: &'static str, orders: &[[u16; 4]], found: [u32; 3]) -> Row {
     )
 }
 
+/// What the search for the shortest stretch takes longest on: only the whole deck stops, at its last order, and each trial takes
+/// all orders before it. With what it finds.
+fn worst_stretch(orders: u32) -> (State, Buffers, Result<[u32; 3], u8>) {
+    // only UM makes the last order, a product below every characteristic, a 10
+    let middle = [[2, 1, 0, 4], [23, 1, 2, 0], [15, 1, 0, 6], [5, 1, 2, 0], [10, 3, 1, 0], [18, 1, 0, 8]];
+    let between = middle.into_iter().cycle().take(orders as usize - 2);
+    let deck = [[19, 0, 1, 0]].into_iter().chain(between).chain([[32, 0, 0, 0]]).flatten().collect();
+    let memory = vec![0x0110, 0, 0x4120, 0, 0x4130, 0, 0, 0, 0, 0];
+    let mut seat = Seat::default();
+    seat.float[0] = 0x0110_0000;
+    let b = Buffers { deck, memory, protect: vec![0; 2], journal: vec![0; 16_384] };
+    (State { seats: [seat, Seat::default()], used: 0 }, b, Ok([0, orders - 1, 10]))
+}
+
+/// A step here is one that is taken and taken back.
+fn stretching(name: &'static str, orders: u32) -> Row {
+    let (s, b, found) = worst_stretch(orders);
+    let mut c = b.clone();
+    let (mut memory, mut journal) = (b.memory.clone(), b.journal.clone());
+    let lent = Lent::from(s);
+    measure(
+        name,
+        "ns/step",
+        (orders * (orders - 1) / 2) as f64,
+        [
+            &mut || {
+                let lent = black_box(lent);
+                assert_eq!(panel::stretch(&lent, 0, &b.deck, &mut memory, &b.protect, &mut journal), found);
+            },
+            &mut || assert_eq!(reference::stretch(black_box(&s), 0, &mut c), found),
+            &mut || assert_eq!(tuned::stretch(black_box(&s), 0, &b), found),
+        ],
+    )
+}
+
+/// The same search on the largest deck, once, in seconds.
+fn largest_stretch() -> f64 {
+    let (s, mut b, found) = worst_stretch(4_096);
+    let lent = Lent::from(s);
+    let start = Instant::now();
+    assert_eq!(panel::stretch(&lent, 0, &b.deck, &mut b.memory, &b.protect, &mut b.journal), found);
+    start.elapsed().as_secs_f64()
+}
+
 /// 4,096 orders that load and use half of the registers, with loops and both sets; the last one reads one of the other half.
 fn half_used() -> Vec<[u16; 4]> {
     let loop_of = |p: u16| {
@@ -405,6 +449,7 @@ fn main() {
             &[floats(r, 0x80ff_ffff), floats(r, 0x80ff_ffff)],
             words(r, 0xff_ffff),
         ),
+        stretching("(t) the shortest stretch, at its worst", 256),
     ];
     println!("{:<36} {:>8} {:>8} {:>8} {:>9} {:>9}", "", "proved", "plain", "tuned", "to plain", "to tuned");
     for r in &rows {
@@ -413,6 +458,7 @@ fn main() {
     }
     let [fast, slow] = rows[0].spread;
     println!("medians of {ROUNDS} rounds; in row (a) a tenth of the plain rounds was below {fast:.1}, a tenth above {slow:.1} ns/step");
+    println!("the shortest stretch in 4,096 orders, at its worst: {:.2} s", largest_stretch());
     if let Some(path) = std::env::args().nth(1) {
         std::fs::write(path, drawn(&rows)).expect("the chart is written");
     }
