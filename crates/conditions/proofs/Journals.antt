@@ -29,7 +29,7 @@ module _ (d : List ℕ) (p : ProtectList) (k : ℕ) where
   abbrev Leaves : Machine → Outcome Machine → Type 0
   Leaves x r = KeptBelow (x .state .used * 4) (x .journal) (r .after .journal)
 
-  steps-leave : (n : ℕ) (x : Machine) → Leaves x (repeated (verdictOf d p k) (λ y e. committed k e y) n x)
+  pub steps-leave : (n : ℕ) (x : Machine) → Leaves x (repeated (verdictOf d p k) (λ y e. committed k e y) n x)
   unfolding repeated
   steps-leave zero x = kept-all (x .state .used * 4) (x .journal)
   steps-leave (suc n) x = cases (verdictOf d p k x) (steps-leave n)

@@ -1,6 +1,7 @@
 pub mod Limits
 pub mod Consecutive
 pub mod Starts
+pub mod Restored
 pub mod Returns
 pub mod Alike
 pub mod Searching

@@ -1,5 +1,5 @@
 -- Trials that are taken back, and the search from the last order down.
-use Prim.Native.Nat.{ℕ, zero, suc, _+_, _-_, _*_, _≤_, _<_}
+use Prim.Native.Nat.{ℕ, _+_, _-_, _*_, _≤_, _<_}
 use mathlib.Core.Path.{_≡_, refl, sym, ap, subst, _∙_}
 use mathlib.Core.List.{List}
 use mathlib.Core.Bool.{Bool, true, false, _&&_}
@@ -10,35 +10,23 @@ use Rattle.hexfloat.specs.Answer.{gives, stops}
 use Rattle.protection.specs.Form.{ProtectList}
 use Rattle.machine.specs.declared.state.Registers.{Registers}
 use Rattle.machine.specs.declared.state.State.{State}
-use Rattle.machine.specs.Back.{backed}
 use Rattle.machine.specs.Decide.{pointerOf}
 use Rattle.machine.specs.Machine.{Machine, machine}
 use Rattle.machine.specs.Run.{entryOf, ran}
 use Rattle.machine.specs.Seats.{registersOf}
 use Rattle.machine.specs.Step.{Outcome, outcome}
 use Rattle.conditions.specs.Theorems.{Typed, KeptBelow}
-use Rattle.conditions.specs.Trail.{Entry}
 use Rattle.conditions.proofs.Journals.{kept-all, kept-then}
 use Rattle.conditions.proofs.Theorems.{theorems}
 use Rattle.stretch.specs.Answer.{stretchOf, TakenBack, Answers, other-end, found}
 use Rattle.stretch.specs.Jump.{HasJump}
-use Rattle.stretch.specs.Search.{backSteps, CameTo, stopsAlike, Tried, Latest}
+use Rattle.stretch.specs.Search.{restored, CameTo, stopsAlike, Tried, Latest}
 use Rattle.stretch.specs.Stretch.{SixToEleven, Shortest}
 use Rattle.stretch.specs.Trial.{pointed, startAt, StopsFrom}
 use Rattle.stretch.proofs.Alike.{alike-journal, alike-stops, stops-alike}
 use Rattle.stretch.proofs.Consecutive.{run-onward, run-few}
-use Rattle.stretch.proofs.Returns.{run-back, backs-journal}
+use Rattle.stretch.proofs.Restored.{run-restored}
 use Rattle.stretch.proofs.Starts.{pointed-used, pointed-entry, whole-run}
-
--- one back step more of those that are left
-pub backs-on : (p : ProtectList) (n : ℕ) (x : Machine) → 0 < n → backSteps p n x ≡ backSteps p (n - 1) (backed p x .after)
-unfolding backSteps
-backs-on p zero x h = absurd (omega arith)
-backs-on p (suc n) x h = let one : suc n - 1 ≡ n = omega arith in rw one
-
-pub backs-none : (p : ProtectList) (n : ℕ) (x : Machine) → n ≡ 0 → backSteps p n x ≡ x
-unfolding backSteps
-backs-none p n x h = rw h
 
 -- nothing done, and one thing after another
 pub left-all : (x : Machine) → TakenBack x x
@@ -51,24 +39,26 @@ left-then {x} {y} {z} a b = record {
   journal = kept-then (a .journal) (subst (λ (s : State). KeptBelow (s .used * 4) (y .journal) (z .journal)) (a .state) (b .journal));
 }
 
--- a run, and as many back steps as it took steps
+-- a run, and memory restored from its records
 pub came-to :
-    (d : List ℕ) (p : ProtectList) (k limit : ℕ) (s : State) (m j : List ℕ) {after back : State} {m1 j1 m2 j2 : List ℕ} {count stop : ℕ} → Typed m →
-    outcome (machine after m1 j1) count stop ≡ ran d p k limit (machine s m j) → machine back m2 j2 ≡ backSteps p count (machine after m1 j1) →
-    CameTo d p k limit (machine s m j) (machine s m2 j2) after count stop
-came-to d p k limit s m j {after} {back} {m1} {j1} {m2} {j2} {count} {stop} typed ran-as back-as =
+    (d : List ℕ) (p : ProtectList) (k limit : ℕ) (s : State) (m j : List ℕ) {after : State} {m1 m2 j1 : List ℕ} {count stop : ℕ} → Typed m →
+    outcome (machine after m1 j1) count stop ≡ ran d p k limit (machine s m j) → m2 ≡ restored j1 (s .used) count m1 →
+    CameTo d p k limit (machine s m j) (machine s m2 j1) after count stop
+came-to d p k limit s m j {after} {m1} {m2} {j1} {count} {stop} typed ran-as back-as =
     let r = ran d p k limit (machine s m j) in
     let at : machine after m1 j1 ≡ r .after = ap (λ (o : Outcome Machine). o .after) ran-as in
     let many : count ≡ r .taken = ap (λ (o : Outcome Machine). o .taken) ran-as in
-    let same : machine back m2 j2 ≡ backSteps p (r .taken) (r .after) = back-as ∙ ap (backSteps p count) at ∙ ap (λ (i : ℕ). backSteps p i (r .after)) many in
-    let journal : j2 ≡ r .after .journal = ap (λ (y : Machine). y .journal) same ∙ backs-journal p (r .taken) (r .after) in
+    let journal : j1 ≡ r .after .journal = ap (λ (y : Machine). y .journal) at in
     record {
       state = ap (λ (y : Machine). y .state) at;
       taken = many;
       stop = ap (λ (o : Outcome Machine). o .stop) ran-as;
       left = record {
         state = refl;
-        memory = ap (λ (y : Machine). y .memory) same ∙ ap (λ (e : Entry). e .memory) (run-back d p k limit (machine s m j) typed);
+        memory =
+            back-as
+            ∙ ap (λ (o : Outcome Machine). restored (o .after .journal) (s .used) (o .taken) (o .after .memory)) ran-as
+            ∙ run-restored d p k limit (machine s m j) typed;
         journal = subst (λ (l : List ℕ). KeptBelow (s .used * 4) j l) (sym journal) (theorems .run-journal d p k limit (machine s m j));
       };
     }

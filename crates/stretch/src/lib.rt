@@ -4,6 +4,7 @@
 // so that both stand as before but for journal words past the used count. What this file exports has no `requires`.
 mod answer;
 mod jump;
+mod restoring;
 mod search;
 mod trying;
 

@@ -103,8 +103,9 @@ pub fn shortest(
         memory.len(),
         journal.len(),
     );
+    let number = machine::number(checks);
     let jump = has_jump(deck);
-    if machine::number(checks) != 0 {
+    if number != 0 {
         return Answer {
             state: s,
             found: Found::Refused(checks),

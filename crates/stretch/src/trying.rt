@@ -1,4 +1,5 @@
 // A trial: a run from another order, taken back.
+use crate::restoring::restore;
 use machine::Ran;
 use machine::State;
 ghost use mathlib.Core.Path.{_≡_};
@@ -6,7 +7,7 @@ ghost use Prim.Native.Nat.{_≤_};
 ghost use Rattle.protection.specs.Bits.{bitwise};
 ghost use Rattle.machine.specs.Machine.{machine};
 ghost use Rattle.machine.specs.Stops.{numberOf};
-ghost use Rattle.stretch.specs.Search.{backSteps, CameTo, Tried};
+ghost use Rattle.stretch.specs.Search.{CameTo, Tried};
 ghost use Rattle.stretch.specs.Trial.{pointed};
 
 // The state with a seat's pointer moved.
@@ -22,22 +23,7 @@ fn pointed(s: State, seat: u32, order: u16) -> State
     next
 }
 
-// The last so many steps taken back.
-fn take_back(s: State, count: u32, memory: &mut [u16], protect: &[u8], journal: &mut [u32]) -> State
-    ensures { λ r. ⌜ machine r (now (memory .exit)) (now (journal .exit))
-        ≡ backSteps (bitwise (now (protect .entry))) count (machine s (now (memory .entry)) (now (journal .entry))) ⌝ }
-{
-    let mut state = s;
-    let mut left = count;
-    while 0 < left {
-        let undone = machine::back(state, memory, protect, journal);
-        state = undone.state;
-        left -= 1;
-    }
-    state
-}
-
-// A run that is taken back: what it came to.
+// A run that is taken back: what it came to. The state is the caller's own, and memory is restored from the records.
 pub fn run_and_return(
     s: State,
     seat: u32,
@@ -51,8 +37,7 @@ pub fn run_and_return(
         (machine s (now (memory .exit)) (now (journal .exit))) (r .state) (r .count) (numberOf (r .stop)) ⌝ }
 {
     let ran = machine::run(s, seat, deck, memory, protect, journal, limit);
-    let after = ran.state;
-    take_back(after, ran.count, memory, protect, journal);
+    restore(memory, journal, s.used, ran.count);
     ran
 }
 
