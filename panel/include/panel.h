@@ -2,9 +2,10 @@
  *
  * Every function takes any content and any lengths that its types allow, and answers 0 or one of the numbers of
  * docs/HANDBOOK.md, 'When it stops'. A refused step, back step, text or piece of the chart leaves the state and every
- * buffer as they were; a run that is stopped keeps the steps that it took before. What a call answers comes back by
- * value. A pointer with length 0 may be anything that is aligned; no two lent buffers overlap. Nothing is kept between
- * calls.
+ * buffer as they were; a run that is stopped keeps the steps that it took before. panel_stretch leaves state and buffers as
+ * they were whatever it answers, but for journal words past the used count, which may differ after a 21, too. What a call
+ * answers comes back by value. A pointer with length 0 may be anything that is aligned; no two lent buffers overlap. Nothing
+ * is kept between calls.
  */
 #ifndef PANEL_H
 #define PANEL_H
@@ -61,6 +62,14 @@ typedef struct {
     uint32_t kind;   /* of the register: 0 float, 1 general of set 0, 2 general of set 1 */
     uint32_t reg;    /* its number, 0 to 7 */
 } panel_finding;
+
+/* What panel_stretch answers. On a refusal first, last and stop are 0. */
+typedef struct {
+    uint32_t number; /* 0, 1, 2, 3, 20 or 21 */
+    uint32_t first;  /* the order that the stretch begins with, counted from 0 */
+    uint32_t last;   /* the order that it ends with, which is stopped */
+    uint32_t stop;   /* by what: 6 to 11 */
+} panel_interval;
 
 /* Makes the state fresh. Returns nothing. */
 void panel_fresh(panel_state *state);
@@ -120,5 +129,18 @@ panel_piece panel_chart(uint16_t bound, uint32_t rank, uint16_t *cells, size_t c
  * JN reads its register before it writes it. The number is 0, or 1 for a deck of the wrong size, or 5 where some order is not
  * legal, reached or not; then nothing is found. It writes nothing, and needs more stack than the others: docs/PANEL.md. */
 panel_finding panel_unset(const uint16_t *deck, size_t deck_cells);
+
+/* Finds the shortest stretch of orders that still stops. It takes what a step takes. The run of the seat from the given state
+ * is stopped at some order by 6 to 11: a stretch is the orders from a first one, no earlier than the seat's pointer, to that
+ * one, if a run from the same state and memory with only the seat's pointer moved to the first takes all of them before the
+ * last and is stopped there by the same number. The one with the highest first order is answered; the whole run is always
+ * one of them. The number is 0, or 20, 1, 2 or 3 as for a step, or after these 21: an order of the deck has the code of JC or
+ * JN, reached or not and whatever its other cells are, or the run ends by anything but 6 to 11, which is 4, 5, 12 or 13.
+ * The trials are made on the lent memory and journal and taken back: the state is only read, and memory and the journal's
+ * words below four times the used count are as they were. The journal's words from there on are free: they may hold anything
+ * after a 0 or a 21. On 20, 1, 2 and 3 nothing is written. */
+panel_interval panel_stretch(const panel_state *state, uint32_t seat, const uint16_t *deck, size_t deck_cells,
+                             uint16_t *memory, size_t memory_halfwords, const uint8_t *protect, size_t protect_bytes,
+                             uint32_t *journal, size_t journal_words);
 
 #endif

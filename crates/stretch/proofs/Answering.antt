@@ -18,11 +18,15 @@ says-jump d h s = subst (SaysJump d) h s
 pub says-none : (d : List ℕ) {b : Bool} → b ≡ false → SaysJump d b → HasJump d → ⊥
 says-none d h s = subst (SaysJump d) h s
 
+-- a number that stands for another is 0 where that is
+pub passed : {n r e : ℕ} → n ≡ e → r ≡ n → r ≡ 0 → e ≡ 0
+passed same said none = sym same ∙ sym said ∙ none
+
 module _ (d : List ℕ) (p : ProtectList) (k : ℕ) (x : Machine) where
   -- a check refuses, and nothing is done
-  pub asked-refused : {n : ℕ} → n ≡ entryOf d p k x → (n ≡ 0 → ⊥) → Asked d p k x x (stops n)
-  asked-refused same some = record {
-    answers = subst (λ (i : ℕ). Answers d p k x (stops i)) (sym same) (refused (λ z. some (same ∙ z)));
+  pub asked-refused : {n r : ℕ} → n ≡ entryOf d p k x → r ≡ n → (r ≡ 0 → ⊥) → Asked d p k x x (stops n)
+  asked-refused same said some = record {
+    answers = subst (λ (i : ℕ). Answers d p k x (stops i)) (sym same) (refused (λ z. some (said ∙ same ∙ z)));
     left = left-all x;
     untouched = λ z. refl;
   }
