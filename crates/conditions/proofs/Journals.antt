@@ -12,7 +12,7 @@ use Rattle.machine.specs.declared.verdict.Effect.{Effect}
 use Rattle.machine.specs.Back.{returning, lastSeat, backedBy, backed}
 use Rattle.machine.specs.Journal.{encoded}
 use Rattle.machine.specs.Machine.{Machine, beforeOf, committed}
-use Rattle.machine.specs.Run.{repeated, entryOf, ran}
+use Rattle.machine.specs.Run.{repeated, stepsOf, entryOf, ran}
 use Rattle.machine.specs.Seats.{registersOf}
 use Rattle.machine.specs.Step.{Outcome, outcome, onward, verdictOf}
 use Rattle.conditions.specs.Theorems.{KeptBelow}
@@ -29,15 +29,12 @@ module _ (d : List ℕ) (p : ProtectList) (k : ℕ) where
   abbrev Leaves : Machine → Outcome Machine → Type 0
   Leaves x r = KeptBelow (x .state .used * 4) (x .journal) (r .after .journal)
 
-  pub steps-leave : (n : ℕ) (x : Machine) → Leaves x (repeated (verdictOf d p k) (λ y e. committed k e y) n x)
+  pub steps-leave : (n : ℕ) (x : Machine) → Leaves x (stepsOf d p k n x)
   unfolding repeated
   steps-leave zero x = kept-all (x .state .used * 4) (x .journal)
   steps-leave (suc n) x = cases (verdictOf d p k x) (steps-leave n)
     where
-      rest : Machine → Outcome Machine
-      rest y = repeated (verdictOf d p k) (λ y e. committed k e y) n y
-
-      cases : (v : Answer Effect) → ((y : Machine) → Leaves y (rest y)) → Leaves x (onward v x (λ e. committed k e x) rest)
+      cases : (v : Answer Effect) → ((y : Machine) → Leaves y (stepsOf d p k n y)) → Leaves x (onward v x (λ e. committed k e x) (stepsOf d p k n))
       cases (stops n) more = kept-all (x .state .used * 4) (x .journal)
       cases (gives e) more =
           let words = encoded k (beforeOf (registersOf k (x .state)) (x .memory) e) in
@@ -47,13 +44,17 @@ module _ (d : List ℕ) (p : ProtectList) (k : ℕ) where
             below = λ i h. then .below i (omega arith) ∙ written-other (x .journal) (x .state .used) words i (λ z. omega arith);
           }
 
-  pub run-leaves : (limit : ℕ) (x : Machine) → Leaves x (ran d p k limit x)
+  -- what holds of a run's steps, and where a check refuses it, holds of the run
+  pub run-either : (P : Outcome Machine → Type 0) (limit : ℕ) (x : Machine) → P (stepsOf d p k limit x) → P (outcome x 0 (entryOf d p k x)) → P (ran d p k limit x)
   unfolding ran
-  run-leaves limit x = cases (eqb (entryOf d p k x) 0)
+  run-either P limit x taken refused = cases (eqb (entryOf d p k x) 0)
     where
-      cases : (b : Bool) → Leaves x (cond b (repeated (verdictOf d p k) (λ y e. committed k e y) limit x) (outcome x 0 (entryOf d p k x)))
-      cases true = steps-leave limit x
-      cases false = kept-all (x .state .used * 4) (x .journal)
+      cases : (b : Bool) → P (cond b (stepsOf d p k limit x) (outcome x 0 (entryOf d p k x)))
+      cases true = taken
+      cases false = refused
+
+  pub run-leaves : (limit : ℕ) (x : Machine) → Leaves x (ran d p k limit x)
+  run-leaves limit x = run-either (Leaves x) limit x (steps-leave limit x) (kept-all (x .state .used * 4) (x .journal))
 
 pub back-leaves-journal : (p : ProtectList) (x : Machine) → backed p x .after .journal ≡ x .journal
 unfolding backed

@@ -16,6 +16,7 @@ use Rattle.machine.specs.Machine.{Machine, committed}
 use Rattle.machine.specs.Run.{repeated, stepsOf, entryOf, ran}
 use Rattle.machine.specs.Step.{Outcome, outcome, onward, verdictOf}
 use Rattle.machine.proofs.Checks.{entered}
+use Rattle.conditions.proofs.Journals.{run-either}
 use Rattle.conditions.proofs.Onward.{taken-on, decided-inside}
 use Rattle.conditions.proofs.Theorems.{theorems}
 use Rattle.stretch.specs.Jump.{HasJump}
@@ -59,12 +60,7 @@ module _ (d : List ℕ) (p : ProtectList) (k : ℕ) (none : HasJump d → ⊥) w
           first (suc i) h rest = rest (omega arith)
 
   pub run-onward : (limit : ℕ) (x : Machine) → Onward x (ran d p k limit x)
-  unfolding ran
-  run-onward limit x = cases (eqb (entryOf d p k x) 0)
-    where
-      cases : (b : Bool) → Onward x (cond b (stepsOf d p k limit x) (outcome x 0 (entryOf d p k x)))
-      cases true = steps-onward limit x
-      cases false = still x (entryOf d p k x)
+  run-onward limit x = run-either d p k (Onward x) limit x (steps-onward limit x) (still x (entryOf d p k x))
 
 -- a run that no check refuses
 pub run-entered : (d : List ℕ) (p : ProtectList) (k limit : ℕ) (x : Machine) → ran d p k limit x .stop ≡ 0 → entryOf d p k x ≡ 0

@@ -2,8 +2,7 @@
 use Prim.Native.Nat.{ℕ, zero, suc, _+_, _-_, _*_, _/_, _%_, _^_, _<_, _≤_}
 use mathlib.Core.Path.{_≡_, refl, ap, _∙_}
 use mathlib.Core.List.{List}
-use mathlib.Core.Bool.{Bool, true, false, cond}
-use lib.Dec.{eqb}
+use mathlib.Core.Bool.{true}
 use lib.ListN.{length}
 use native.Mathlib.Nat.{add-zero}
 use native.Mathlib.Omega.{arith}
@@ -16,18 +15,18 @@ use Rattle.machine.specs.declared.verdict.Effect.{Effect}
 use Rattle.machine.specs.Change.{placed, oldOf, memoryAfter}
 use Rattle.machine.specs.Journal.{recordAt, encodedAs, encoded}
 use Rattle.machine.specs.Machine.{Machine, beforeOf, committed}
-use Rattle.machine.specs.Run.{repeated, stepsOf, entryOf, ran}
+use Rattle.machine.specs.Run.{repeated, stepsOf, ran}
 use Rattle.machine.specs.Seats.{registersOf}
 use Rattle.machine.specs.Status.{packed}
-use Rattle.machine.specs.Step.{Outcome, outcome, onward, verdictOf}
+use Rattle.machine.specs.Step.{Outcome, onward, verdictOf}
 use Rattle.machine.proofs.Checks.{condition-below}
 use Rattle.machine.proofs.Decided.{decided-taken}
 use Rattle.conditions.specs.Theorems.{Typed}
-use Rattle.conditions.proofs.Journals.{steps-leave}
+use Rattle.conditions.proofs.Journals.{steps-leave, run-either}
 use Rattle.conditions.proofs.Records.{record-agrees}
 use Rattle.conditions.proofs.Restore.{memory-back, placed-old, memory-length, memory-halfwords}
 use Rattle.conditions.proofs.Theorems.{theorems}
-use Rattle.stretch.specs.Search.{savedBack, recordBack, restored}
+use Rattle.stretch.specs.Restore.{savedBack, recordBack, restored}
 
 -- the kind in word 0
 module _ (s : Status) (seat kind : ℕ) where
@@ -82,20 +81,20 @@ module _ (d : List ℕ) (p : ProtectList) (k : ℕ) where
       (taken .held .own .mask) fits
       ∙ memory-back g (x .memory) (typed .halfword) (e .change))
 
+  -- memory as a run's records put it back
+  abbrev putBack : Machine → Outcome Machine → List ℕ
+  putBack x r = restored (r .after .journal) (x .state .used) (r .taken) (r .after .memory)
+
   steps-restored :
-      (n : ℕ) (x : Machine) → Typed (x .memory) →
-      restored (stepsOf d p k n x .after .journal) (x .state .used) (stepsOf d p k n x .taken) (stepsOf d p k n x .after .memory) ≡ x .memory
+      (n : ℕ) (x : Machine) → Typed (x .memory) → putBack x (stepsOf d p k n x) ≡ x .memory
   unfolding repeated restored
   steps-restored zero x typed = refl
   steps-restored (suc n) x typed = cases (verdictOf d p k x) refl (steps-restored n)
     where
-      back : Outcome Machine → List ℕ
-      back r = restored (r .after .journal) (x .state .used) (r .taken) (r .after .memory)
-
       cases :
           (v : Answer Effect) → verdictOf d p k x ≡ v →
-          ((y : Machine) → Typed (y .memory) → restored (stepsOf d p k n y .after .journal) (y .state .used) (stepsOf d p k n y .taken) (stepsOf d p k n y .after .memory) ≡ y .memory) →
-          back (onward v x (λ e. committed k e x) (stepsOf d p k n)) ≡ x .memory
+          ((y : Machine) → Typed (y .memory) → putBack y (stepsOf d p k n y) ≡ y .memory) →
+          putBack x (onward v x (λ e. committed k e x) (stepsOf d p k n)) ≡ x .memory
       cases (stops i) t rest = refl
       cases (gives e) t rest =
           let y = committed k e x in
@@ -107,17 +106,9 @@ module _ (d : List ℕ) (p : ProtectList) (k : ℕ) where
           ∙ ap (recordBack (r .after .journal) (x .state .used)) (rest y still)
           ∙ step-restored x e n typed t
 
-  pub run-restored :
-      (limit : ℕ) (x : Machine) → Typed (x .memory) →
-      restored (ran d p k limit x .after .journal) (x .state .used) (ran d p k limit x .taken) (ran d p k limit x .after .memory) ≡ x .memory
-  unfolding ran restored
-  run-restored limit x typed = cases (eqb (entryOf d p k x) 0)
-    where
-      cases :
-          (b : Bool) →
-          (let r = cond b (stepsOf d p k limit x) (outcome x 0 (entryOf d p k x)) in restored (r .after .journal) (x .state .used) (r .taken) (r .after .memory) ≡ x .memory)
-      cases true = steps-restored limit x typed
-      cases false = refl
+  pub run-restored : (limit : ℕ) (x : Machine) → Typed (x .memory) → putBack x (ran d p k limit x) ≡ x .memory
+  unfolding restored
+  run-restored limit x typed = run-either d p k (λ r. putBack x r ≡ x .memory) limit x (steps-restored limit x typed) refl
 
 -- one record more of those that are left
 pub restored-on : (j : List ℕ) (first n : ℕ) (m : List ℕ) → 0 < n → restored j first n m ≡ restored j first (n - 1) (recordBack j (first + (n - 1)) m)

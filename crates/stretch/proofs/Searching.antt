@@ -20,7 +20,8 @@ use Rattle.conditions.proofs.Journals.{kept-all, kept-then}
 use Rattle.conditions.proofs.Theorems.{theorems}
 use Rattle.stretch.specs.Answer.{stretchOf, TakenBack, Answers, other-end, found}
 use Rattle.stretch.specs.Jump.{HasJump}
-use Rattle.stretch.specs.Search.{restored, CameTo, stopsAlike, Tried, Latest}
+use Rattle.stretch.specs.Restore.{restored}
+use Rattle.stretch.specs.Search.{CameTo, stopsAlike, Tried, Latest}
 use Rattle.stretch.specs.Stretch.{SixToEleven, Shortest}
 use Rattle.stretch.specs.Trial.{pointed, startAt, StopsFrom}
 use Rattle.stretch.proofs.Alike.{alike-journal, alike-stops, stops-alike}

@@ -1,11 +1,11 @@
 // Memory as it was before some steps, from their records. The machine's own back step would put back registers too, which
-// a trial has by value and drops: copying them for each step took three times as long as the run.
+// a trial has by value and drops; copying them for each step took three times as long as the step.
 ghost use mathlib.Core.Path.{_≡_};
 ghost use Prim.Native.Nat.{_+_, _≤_};
 ghost use lib.ListN.{length};
 ghost use Rattle.machine.specs.Change.{putWord};
 ghost use Rattle.machine.specs.Journal.{recordAt, fourWords};
-ghost use Rattle.stretch.specs.Search.{savedBack, recordBack, restored};
+ghost use Rattle.stretch.specs.Restore.{savedBack, recordBack, restored};
 
 // Two halfwords, the left one high.
 fn put_word(memory: &mut [u16], at: usize, word: u32)
@@ -36,6 +36,7 @@ fn put_saved(memory: &mut [u16], head: u32, place: u32, left: u32, right: u32)
     }
 }
 
+// What record k saves of memory, where the journal has it.
 fn put_record(memory: &mut [u16], journal: &[u32], k: usize)
     requires { ⌜ k ≤ 8589934592 ⌝ }
     ensures { λ _. ⌜ now (memory .exit) ≡ recordBack (now (journal .entry)) k (now (memory .entry)) ⌝ }
@@ -50,7 +51,7 @@ fn put_record(memory: &mut [u16], journal: &[u32], k: usize)
     }
 }
 
-// What so many records from the first on save, the last one first.
+// What so many records from the first on save of memory, the last one first.
 pub fn restore(memory: &mut [u16], journal: &[u32], first: u32, count: u32)
     ensures { λ _. ⌜ now (memory .exit) ≡ restored (now (journal .entry)) first count (now (memory .entry)) ⌝ }
 {

@@ -1,6 +1,6 @@
 -- `stretch::restoring::put_record` meets its contract. Assumes nothing.
 use borrow.Author.Tests.{le-leb, lt-leb}
-use Rattle.stretch.specs.Search.{recordBack}
+use Rattle.stretch.specs.Restore.{recordBack}
 use borrow.Author.Needs.{needs}
 use Rattle.stretch.proofs.restoring.put_record.Statement.{statement}
 use Rattle.stretch.proofs.restoring.put_record.Tie as tie

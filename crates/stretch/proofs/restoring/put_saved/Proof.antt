@@ -1,6 +1,6 @@
 -- `stretch::restoring::put_saved` meets its contract: a case a kind, and whether the halfwords are there. Assumes nothing.
 use borrow.Author.Tests.{eq-eqb, ne-eqb, le-leb, lt-leb}
-use Rattle.stretch.specs.Search.{savedBack}
+use Rattle.stretch.specs.Restore.{savedBack}
 use borrow.Author.Needs.{needs}
 use Rattle.stretch.proofs.restoring.put_saved.Statement.{statement}
 use Rattle.stretch.proofs.restoring.put_saved.Tie as tie

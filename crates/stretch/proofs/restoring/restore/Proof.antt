@@ -5,7 +5,7 @@ use mathlib.Core.Path.{_≡_, refl, sym, ap, _∙_}
 use native.Mathlib.Omega.{arith}
 use lib.ListN.{length}
 use borrow.Author.Needs.{needs}
-use Rattle.stretch.specs.Search.{restored}
+use Rattle.stretch.specs.Restore.{restored}
 use Rattle.stretch.proofs.Restored.{restored-on, restored-none}
 use Rattle.stretch.proofs.restoring.restore.Statement.{statement}
 use Rattle.stretch.proofs.restoring.restore.Tie as tie
