@@ -21,7 +21,7 @@ use Rattle.stretch.specs.Search.{stopsAlike}
 use Rattle.stretch.specs.Trial.{pointed, startAt, trialFrom, StopsFrom}
 use Rattle.stretch.proofs.Consecutive.{run-onward}
 use Rattle.stretch.proofs.Limits.{run-same, run-more}
-use Rattle.stretch.proofs.Returns.{run-alike}
+use Rattle.stretch.proofs.Journal.{run-alike}
 use Rattle.stretch.proofs.Starts.{pointed-pointer, pointed-entry}
 
 -- the journal's words do not matter

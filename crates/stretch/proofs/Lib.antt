@@ -2,7 +2,7 @@ pub mod Limits
 pub mod Consecutive
 pub mod Starts
 pub mod Restored
-pub mod Returns
+pub mod Journal
 pub mod Alike
 pub mod Searching
 pub mod Answering

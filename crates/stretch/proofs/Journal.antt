@@ -1,22 +1,15 @@
 -- What a run comes to does not depend on the journal's words.
 use Prim.Native.Nat.{ℕ}
-use mathlib.Core.Path.{_≡_, refl, sym, ap, _∙_}
+use mathlib.Core.Path.{_≡_, sym, ap, _∙_}
 use mathlib.Core.List.{List, [], _∷_}
 use lib.ListN.{length}
 use Rattle.protection.specs.Form.{ProtectList}
 use Rattle.machine.specs.declared.state.State.{State}
 use Rattle.machine.specs.Machine.{Machine, machine}
 use Rattle.machine.specs.Run.{ran}
-use Rattle.machine.specs.Step.{Outcome}
-use Rattle.conditions.specs.Trail.{Call, run, entry, trail, replyOf, traced, called, replies, AllCovered}
+use Rattle.conditions.specs.Trail.{run, entry, trail, replyOf, traced, called, replies, AllCovered}
 use Rattle.conditions.specs.Theorems.{Typed, Included}
 use Rattle.conditions.proofs.Theorems.{theorems}
-
--- the one reply of a list
-module _ {W : Type 0} (f : Call → W → Outcome W) (c : Call) (x : W) where
-  one-reply : replies f (c ∷ []) x ≡ replyOf (f c x) ∷ []
-  unfolding replies
-  one-reply = refl
 
 -- the list of one run is covered
 run-covered : (d : List ℕ) (p : ProtectList) (k n : ℕ) (x : Machine) → Included d p x (run k n ∷ [])
