@@ -17,7 +17,7 @@ use crate::word::{Parts, Width, Words};
 const GUARD_DIGITS: u32 = 1;
 
 // Whether the second operand is added or subtracted.
-#[derive(Drop)]
+#[derive(Clone, Copy)]
 pub enum Sense {
     Plus,
     Minus,

@@ -6,7 +6,7 @@ ghost use Rattle.hexfloat.specs.Operand.{Alignable, prealigned};
 use crate::word::Parts;
 
 // Two fractions with their guard digits, at one characteristic.
-#[derive(Drop)]
+#[derive(Clone, Copy)]
 pub struct Prealigned {
     pub characteristic: u32,
     pub first: u64,

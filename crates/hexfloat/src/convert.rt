@@ -5,7 +5,7 @@ ghost use Rattle.hexfloat.specs.Convert.{says_fixed, to_fixed, to_float, float_p
 
 use crate::word::{Coded, Parts};
 
-#[derive(Drop)]
+#[derive(Clone, Copy)]
 pub enum Fixed {
     Word(Coded),
     Overflow,

@@ -55,7 +55,7 @@ fn leading_digits(width: Width, n: u32, a: u64, b: u64) -> u64
 }
 
 // What a turn takes into the quotient, and what it leaves of the dividend.
-#[derive(Drop)]
+#[derive(Clone, Copy)]
 pub struct Turn {
     pub taken: u64,
     pub rest: u64,

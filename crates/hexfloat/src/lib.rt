@@ -3,6 +3,8 @@
 // What is public takes words of any content and has no `requires`; the functions behind it, which the
 // modules offer each other alone, may have one. What each means is a definition of specs/, which
 // speaks of exact values as whole numbers.
+#![tactic(auto)]
+
 mod addition;
 mod alignment;
 mod comparison;

@@ -62,7 +62,7 @@ fn multiply_long(width: Width, mask: bool, x: Parts, y: Parts) -> Result
 }
 
 // A product of two fractions as a whole number, high * 16^12 + low.
-#[derive(Drop)]
+#[derive(Clone, Copy)]
 pub struct Product {
     pub high: u64,
     pub low: u64,

@@ -5,7 +5,7 @@ ghost use Rattle.hexfloat.specs.Operand.{Operand, normalised};
 use crate::word::Parts;
 
 // A normalised fraction, and its characteristic plus 14.
-#[derive(Drop)]
+#[derive(Clone, Copy)]
 pub struct Normal {
     pub place: u32,
     pub fraction: u64,

@@ -8,7 +8,7 @@ ghost use Rattle.hexfloat.specs.Word.{digits_of, words_of};
 
 use crate::word::{Parts, Width, Words};
 
-#[derive(Drop)]
+#[derive(Clone, Copy)]
 pub enum Result {
     Number(Words),
     ZeroDivisor,

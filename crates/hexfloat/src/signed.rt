@@ -3,7 +3,7 @@ ghost use Rattle.std.specs.Prelude.{◌≡◌, ◌+◌, ◌<◌, ◌^◌};
 ghost use Rattle.hexfloat.specs.Add.{signed};
 ghost use Rattle.hexfloat.specs.Compare.{above, below};
 
-#[derive(Drop)]
+#[derive(Clone, Copy)]
 pub struct Signed {
     pub sign: u32,
     pub magnitude: u64,

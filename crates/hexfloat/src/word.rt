@@ -4,7 +4,7 @@ ghost use Rattle.hexfloat.specs.Word.{digits_of, short_parts, long_parts, parts_
 ghost use Rattle.hexfloat.specs.Operand.{Operand};
 
 // How many digits an operand has: six or 14.
-#[derive(Drop)]
+#[derive(Clone, Copy)]
 pub enum Width {
     Short,
     Long,
@@ -12,21 +12,21 @@ pub enum Width {
 
 // The words of an operand or a result: a long one's two registers or storage words. A short one
 // stands in `high`.
-#[derive(Drop)]
+#[derive(Clone, Copy)]
 pub struct Words {
     pub high: u32,
     pub low: u32,
 }
 
 // A result word with the condition code that it sets.
-#[derive(Drop)]
+#[derive(Clone, Copy)]
 pub struct Coded {
     pub word: u32,
     pub condition: u8,
 }
 
 // A number taken apart.
-#[derive(Drop)]
+#[derive(Clone, Copy)]
 pub struct Parts {
     pub sign: u32,
     pub characteristic: u32,

@@ -2,6 +2,8 @@
 //
 // What is public takes a list of any length and content and has no `requires`. Nothing else in the
 // product knows where the bit of an address is.
+#![tactic(auto)]
+
 mod bit;
 mod list;
 

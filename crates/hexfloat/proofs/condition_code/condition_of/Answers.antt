@@ -1,0 +1,6 @@
+-- `condition_of` meets its contract: by the callee, with the tests of the definition.
+use borrow.Author.Rules.{rules}
+use Rattle.hexfloat.proofs.condition_code.condition_of.Goals as goal
+
+pub returns : goal.returns
+returns c = rw c.condition_by.ensures

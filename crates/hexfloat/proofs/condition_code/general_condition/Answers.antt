@@ -1,0 +1,8 @@
+-- `general_condition` meets its contract.
+use borrow.Author.Rules.{rules}
+use Rattle.hexfloat.specs.Condition.{general_condition}
+use Rattle.hexfloat.proofs.condition_code.general_condition.Goals as goal
+
+pub returns : goal.returns
+unfolding general_condition
+returns c = c.signed_condition.ensures
