@@ -18,7 +18,7 @@ use crate::verdict::Verdict;
 // What stands after some steps beside the registers and the lent buffers, and how the steps ended. The
 // parts of the status are apart, and no two stand here side by side that do so in the state: loaded as
 // one word, they would wait for two stores.
-#[derive(Drop)]
+#[derive(Clone, Copy)]
 pub struct Advanced {
     pub used: u32,
     pub condition: u32,

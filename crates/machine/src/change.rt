@@ -24,7 +24,7 @@ use orders::{general_at, general_cell};
 
 // What is overwritten, and with what: a float register, a float pair, a general register, two or
 // four halfwords.
-#[derive(Drop)]
+#[derive(Clone, Copy)]
 pub enum Change {
     Nothing,
     Float(u32, u32),

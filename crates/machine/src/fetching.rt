@@ -9,14 +9,14 @@ use hexfloat::Words;
 use orders::{Legality, Operation, Order, address, legal, span};
 
 // R r1 or pair r1, and the second operand, with the order's row.
-#[derive(Drop)]
+#[derive(Clone, Copy)]
 pub struct Operands {
     pub operation: Operation,
     pub first: Words,
     pub second: Words,
 }
 
-#[derive(Drop)]
+#[derive(Clone, Copy)]
 pub enum Fetched {
     Read(Operands),
     Illegal,

@@ -24,7 +24,7 @@ use crate::stop::Stop;
 use crate::verdict::{Effect, Verdict};
 
 // The four words of a record.
-#[derive(Drop)]
+#[derive(Clone, Copy)]
 pub struct Record {
     pub head: u32,
     pub place: u32,
@@ -138,7 +138,7 @@ pub fn record_of(
 }
 
 // The change of a record, or that its form is broken.
-#[derive(Drop)]
+#[derive(Clone, Copy)]
 pub enum Decoded {
     Formed(Change),
     Broken,

@@ -11,7 +11,7 @@ use crate::decide::entry;
 use crate::state::{State, Status, assemble, other_of, registers_of};
 use crate::stop::{Stop, number};
 
-#[derive(Drop)]
+#[derive(Clone, Copy)]
 pub struct Ran {
     pub state: State,
     pub count: u32,

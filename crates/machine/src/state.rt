@@ -8,7 +8,7 @@ ghost use Rattle.machine.specs.Seats.{registers_of, other_of, seated};
 // set of general registers is in use. No padding arises, and the size is one at which the compiler
 // keeps the parts apart: four or eight bytes would be one word.
 #[repr(C)]
-#[derive(Drop)]
+#[derive(Clone, Copy)]
 pub struct Status {
     pub condition: u32,
     pub mask: u32,
@@ -19,7 +19,7 @@ pub struct Status {
 // The registers that a seat's orders see; of the general ones both sets, register r of set s at 8 s + r. The
 // status stands between the arrays: side by side, they would be copied once more.
 #[repr(C)]
-#[derive(Drop)]
+#[derive(Clone, Copy)]
 pub struct Registers {
     pub float: [u32; 8],
     pub status: Status,
@@ -28,7 +28,7 @@ pub struct Registers {
 
 // The registers of both seats, and how many records of the journal, which they share, are in use.
 #[repr(C)]
-#[derive(Drop)]
+#[derive(Clone, Copy)]
 pub struct State {
     pub seat0: Registers,
     pub seat1: Registers,

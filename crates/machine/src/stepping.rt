@@ -11,7 +11,7 @@ use crate::state::{Registers, State, Status, other_of, registers_of, seat_down};
 use crate::stop::Stop;
 
 // What a step leaves of its seat, the used count, and how it ended.
-#[derive(Drop)]
+#[derive(Clone, Copy)]
 pub struct SeatStepped {
     pub registers: Registers,
     pub used: u32,
@@ -72,7 +72,7 @@ pub fn step_seat(
     }
 }
 
-#[derive(Drop)]
+#[derive(Clone, Copy)]
 pub struct Stepped {
     pub state: State,
     pub stop: Stop,

@@ -3,7 +3,7 @@ ghost use Rattle.std.specs.Prelude.{◌≡◌};
 ghost use Rattle.machine.specs.Stops.{number_of};
 
 // How a call ended. The paper's number of each is `number`.
-#[derive(Drop)]
+#[derive(Clone, Copy)]
 pub enum Stop {
     Taken,
     DeckSize,

@@ -14,13 +14,13 @@ use crate::stop::{Stop, number};
 use crate::verdict::{Effect, Verdict};
 
 // Whose step was taken back.
-#[derive(Drop)]
+#[derive(Clone, Copy)]
 pub enum Whose {
     Nobody,
     Seat(u32),
 }
 
-#[derive(Drop)]
+#[derive(Clone, Copy)]
 pub struct Undone {
     pub state: State,
     pub stop: Stop,

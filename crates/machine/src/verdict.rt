@@ -4,13 +4,13 @@ use crate::state::Status;
 use crate::stop::Stop;
 
 // The change, and the status that stands after it.
-#[derive(Drop)]
+#[derive(Clone, Copy)]
 pub struct Effect {
     pub change: Change,
     pub status: Status,
 }
 
-#[derive(Drop)]
+#[derive(Clone, Copy)]
 pub enum Verdict {
     Refused(Stop),
     Granted(Effect),

@@ -2,6 +2,8 @@
 // and the address of the storage operand.
 //
 // What is public takes an order of any content and has no `requires`.
+#![tactic(auto)]
+
 mod addressing;
 mod deck;
 mod general;

@@ -6,7 +6,7 @@ ghost use Rattle.orders.specs.Order.{row, on_float, on_general, on_storage, on_c
 use hexfloat::{Sense, Width};
 
 // The four cells of an order.
-#[derive(Drop)]
+#[derive(Clone, Copy)]
 pub struct Order {
     pub code: u16,
     pub r1: u16,
@@ -15,7 +15,7 @@ pub struct Order {
 }
 
 // What an order does.
-#[derive(Drop)]
+#[derive(Clone, Copy)]
 pub enum Verb {
     Load,
     Complement,
@@ -36,7 +36,7 @@ pub enum Verb {
 }
 
 // Where its second operand is.
-#[derive(Drop)]
+#[derive(Clone, Copy)]
 pub enum Place {
     Nowhere,
     FloatRegister,
@@ -45,7 +45,7 @@ pub enum Place {
 }
 
 // A row of the table; r1, r2 and at are the largest that the cells may be.
-#[derive(Drop)]
+#[derive(Clone, Copy)]
 pub struct Operation {
     pub verb: Verb,
     pub width: Width,
@@ -55,7 +55,7 @@ pub struct Operation {
     pub at: u16,
 }
 
-#[derive(Drop)]
+#[derive(Clone, Copy)]
 pub enum Legality {
     Legal(Operation),
     Illegal,

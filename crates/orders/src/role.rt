@@ -5,7 +5,7 @@ ghost use Rattle.orders.specs.Role.{role_read, role_written};
 use crate::order::Verb;
 
 // The registers that r1 names.
-#[derive(Drop)]
+#[derive(Clone, Copy)]
 pub enum Role {
     Nothing,
     // R r1, or pair r1, by the width of the operands.
