@@ -2,7 +2,7 @@
 use crate::case::Case;
 use hexfloat::{Coded, Fixed, Result, Sense, Width, Words};
 
-#[derive(Drop)]
+#[derive(Clone, Copy)]
 pub struct Answer {
     pub words: Words,
     pub stop: u8,

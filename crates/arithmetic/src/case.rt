@@ -3,7 +3,7 @@ ghost use Rattle.std.specs.Prelude.{◌+◌, ◌≤◌, ◌<◌};
 
 use hexfloat::Words;
 
-#[derive(Drop)]
+#[derive(Clone, Copy)]
 pub struct Case {
     pub op: u8,
     pub mask: bool,
@@ -11,13 +11,13 @@ pub struct Case {
     pub b: Words,
 }
 
-#[derive(Drop)]
+#[derive(Clone, Copy)]
 pub enum Read {
     Case(Case),
     Malformed,
 }
 
-#[derive(Drop)]
+#[derive(Clone, Copy)]
 pub enum Word {
     Of(u32),
     Malformed,
@@ -91,17 +91,15 @@ fn is_op(b: u8) -> bool {
 fn parse_word(line: &[u8; 38], at: usize) -> Word
     requires { at ≤ 30 }
 {
-    let mut value: u64 = 0;
-    let mut i = 0;
-    while i < 8 {
+    let mut value: u32 = 0;
+    for i in 0..8 {
         let d = digit(line[at + i]);
         if 15 < d {
             return Word::Malformed;
         }
-        value = (value * 16 + d) % 0x1_0000_0000;
-        i += 1;
+        value = ((value as u64 * 16 + d) % 0x1_0000_0000) as u32;
     }
-    Word::Of(value as u32)
+    Word::Of(value)
 }
 
 // The digit's value, or 16 for a byte that is none.

@@ -23,9 +23,7 @@ fn put_word(out: &mut [u8; 22], at: usize, w: u32)
     requires { at ≤ 8 }
 {
     let mut rest = w;
-    let mut i = 8;
-    while 0 < i {
-        i -= 1;
+    for i in (0..8).rev() {
         out[at + i] = digit(rest % 16);
         rest /= 16;
     }
