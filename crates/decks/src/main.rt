@@ -1,17 +1,20 @@
 // Runs every deck text of a file of cases, and writes what `desk` writes for each.
 //
 // A case is a line of five digits, the text's length in bytes, and the text.
+#![tactic(auto)]
+
 ghost use Rattle.std.specs.Prelude.{◌≤◌, length};
 
 use listing::Listing;
+use std::io::Print;
+use stream::read_full;
 
 // The number of five digits and a line feed, or 100,000 for any other line.
 fn length_of(line: &[u8; 6]) -> usize
     ensures { result ≤ 100000 }
 {
     let mut n: usize = 0;
-    let mut i = 0;
-    while i < 5 {
+    for i in 0..5 {
         let b = line[i];
         if b < b'0' {
             return 100000;
@@ -20,52 +23,54 @@ fn length_of(line: &[u8; 6]) -> usize
             return 100000;
         }
         n = (n * 10 + (b - b'0') as usize) % 100000;
-        i += 1;
     }
     if line[5] == b'\n' { n } else { 100000 }
 }
 
 // Runs the text of n bytes that follows, and says whether to go on.
-fn one_text(n: usize, space: &mut [u8]) -> bool
+fn one_text(rt: HostRuntime, n: usize, space: &mut [u8]) -> bool
     requires { n ≤ length space.old }
 {
     let text = &mut space[..n];
-    let got = io::read_full(libc::STDIN_FILENO, text);
+    let got = read_full(&mut rt.stdin(), text);
     if got < n {
-        io::write_all(libc::STDERR_FILENO, b"decks: a text is too short\n");
+        let _ = rt.stderr().write_all(b"decks: a text is too short\n");
         return false;
     }
-    write(listing::answer(text))
+    write(rt, listing::answer(text))
 }
 
-fn write(out: Listing) -> bool
+fn write(rt: HostRuntime, out: Listing) -> bool
     requires { out.length ≤ 320 }
 {
     let n = out.length;
     let bytes = out.bytes;
-    io::write_all(libc::STDOUT_FILENO, &bytes[..n])
+    rt.stdout().write_all(&bytes[..n]).is_ok()
 }
 
 // One case, and whether to go on.
-fn one_case() -> bool {
+fn one_case(rt: HostRuntime) -> bool {
     let mut line = [0u8; 6];
-    let got = io::read_full(libc::STDIN_FILENO, &mut line);
+    let got = read_full(&mut rt.stdin(), &mut line);
     if got == 0 {
         return false;
     }
     let n = length_of(&line);
     if n == 100000 {
-        io::write_all(libc::STDERR_FILENO, b"decks: a length is not of the form\n");
+        let _ = rt
+            .stderr()
+            .write_all(b"decks: a length is not of the form\n");
         return false;
     }
     let mut space = [0u8; 100000];
-    one_text(n, &mut space)
+    one_text(rt, n, &mut space)
 }
 
-// A proved loop has to end: the turns count down from a number that no run uses up.
-fn main() {
-    let mut turns = u64::MAX;
-    while turns > 0 && one_case() {
-        turns -= 1;
+// A proved loop has to end: the turns are more than any run uses up.
+fn main(rt: HostRuntime) {
+    for _ in 0..u64::MAX {
+        if !one_case(rt) {
+            break;
+        }
     }
 }

@@ -1,38 +1,36 @@
 // Reads a deck text from standard input, runs it, and writes the listing; tells on standard error why a
 // text is refused.
+#![tactic(auto)]
+
 ghost use Rattle.std.specs.Prelude.{◌≤◌, length};
 
 use decktext::Reading;
 use listing::Listing;
+use std::io::{Print, Read};
 
 // How many bytes were read, or that a read failed.
-#[derive(Drop)]
+#[derive(Clone, Copy)]
 struct Input {
     count: usize,
     failed: bool,
 }
 
 // Reads until the input ends or the buffer is full.
-fn read_all(buf: &mut [u8]) -> Input
+fn read_all<R: Read>(input: &mut R, buf: &mut [u8]) -> Input
     ensures { result.count ≤ length buf.new }
 {
     let mut count = 0;
     while count < buf.len() {
-        let got = libc::read(libc::STDIN_FILENO, &mut buf[count..]);
-        if got < 0 {
-            return Input {
-                count,
-                failed: true,
-            };
+        match input.read(&mut buf[count..]) {
+            Ok(0) => break,
+            Ok(more) => count += more,
+            Err(_) => {
+                return Input {
+                    count,
+                    failed: true,
+                };
+            }
         }
-        let more = io::count(got, &buf[count..]);
-        if more == 0 {
-            return Input {
-                count,
-                failed: false,
-            };
-        }
-        count += more;
     }
     Input {
         count,
@@ -40,32 +38,34 @@ fn read_all(buf: &mut [u8]) -> Input
     }
 }
 
-fn complain(what: &[u8]) {
-    io::write_all(libc::STDERR_FILENO, what);
+fn complain(rt: HostRuntime, what: &[u8]) {
+    let _ = rt.stderr().write_all(what);
 }
 
-fn complain_of_line(line: u32, what: &[u8]) {
+fn complain_of_line(rt: HostRuntime, line: u32, what: &[u8]) {
     let mut digits = [0u8; 20];
     let k = io::decimal(line as u64, &mut digits);
-    complain(b"desk: line ");
-    complain(&digits[..k]);
-    complain(what);
+    complain(rt, b"desk: line ");
+    complain(rt, &digits[..k]);
+    complain(rt, what);
 }
 
 // Why a text is refused, beside the two numbers of the listing.
-fn explain(r: Reading) {
+fn explain(rt: HostRuntime, r: Reading) {
     match r {
         Reading::Taken(_) => {}
         Reading::Malformed(line) => complain_of_line(
+            rt,
             line,
             b": not of its form: one blank between values, capitals, no leading zeros, LF at the end\n",
         ),
         Reading::NoRoom(line) => {
             if line == 0 {
-                complain(b"desk: the text has more than 32,768 bytes\n");
+                complain(rt, b"desk: the text has more than 32,768 bytes\n");
                 return;
             }
             complain_of_line(
+                rt,
                 line,
                 b": no room: at most 4,096 orders, and addresses below 4,096\n",
             )
@@ -74,24 +74,24 @@ fn explain(r: Reading) {
 }
 
 // One byte more than a text may have is read, so that a longer text is seen to be one.
-fn main() {
+fn main(rt: HostRuntime) {
     let mut text = [0u8; 32769];
-    let input = read_all(&mut text);
+    let input = read_all(&mut rt.stdin(), &mut text);
     if input.failed {
-        complain(b"desk: standard input cannot be read\n");
+        complain(rt, b"desk: standard input cannot be read\n");
         return;
     }
     let n = input.count;
-    if !write(listing::answer(&text[..n])) {
-        complain(b"desk: standard output cannot be written\n");
+    if !write(rt, listing::answer(&text[..n])) {
+        complain(rt, b"desk: standard output cannot be written\n");
     }
-    explain(listing::reading(&text[..n]));
+    explain(rt, listing::reading(&text[..n]));
 }
 
-fn write(out: Listing) -> bool
+fn write(rt: HostRuntime, out: Listing) -> bool
     requires { out.length ≤ 320 }
 {
     let n = out.length;
     let bytes = out.bytes;
-    io::write_all(libc::STDOUT_FILENO, &bytes[..n])
+    rt.stdout().write_all(&bytes[..n]).is_ok()
 }

@@ -1,6 +1,8 @@
 // Runs the deck of document 01's example from cells, at seat 0, steps it back to the start and forward
 // again, and writes what stands after each call: the call, its steps, stop, pointer, condition code, mask,
 // used count and selector; then the float registers and both sets of general ones.
+#![tactic(auto)]
+
 ghost use Rattle.protection.specs.Bits.{bitwise};
 ghost use Rattle.machine.specs.Machine.{machine};
 ghost use Rattle.machine.specs.Stops.{number_of};
@@ -10,7 +12,7 @@ use machine::{State, Stop, Whose};
 use trial::Called;
 
 // How a step and the back step after it ended, whose step was taken back, and the state that they leave.
-#[derive(Drop)]
+#[derive(Clone, Copy)]
 struct Return {
     state: State,
     step: Stop,
@@ -56,7 +58,7 @@ fn step_and_return(
 }
 
 // A call's line, and the registers.
-fn show(name: [u8; 4], r: Called) {
+fn show(rt: HostRuntime, name: [u8; 4], r: Called) {
     let s = r.state;
     let g = s.seat0;
     let float = g.float;
@@ -69,14 +71,18 @@ fn show(name: [u8; 4], r: Called) {
     let t = trial::with_decimal(t, g.status.condition);
     let t = trial::with_decimal(t, g.status.mask);
     let t = trial::with_decimal(t, s.used);
-    trial::write(trial::ended(trial::with_decimal(t, g.status.selector as u32)));
-    trial::write(trial::ended(trial::with_float(trial::empty(), float)));
-    trial::write(trial::ended(trial::with_set_0(trial::empty(), general)));
-    trial::write(trial::ended(trial::with_set_1(trial::empty(), general)));
+    trial::write(
+        rt,
+        trial::ended(trial::with_decimal(t, g.status.selector as u32)),
+    );
+    trial::write(rt, trial::ended(trial::with_float(trial::empty(), float)));
+    trial::write(rt, trial::ended(trial::with_set_0(trial::empty(), general)));
+    trial::write(rt, trial::ended(trial::with_set_1(trial::empty(), general)));
 }
 
 // One call, shown.
 fn called(
+    rt: HostRuntime,
     byte: u8,
     name: [u8; 4],
     s: State,
@@ -87,29 +93,44 @@ fn called(
 ) -> State {
     let r = trial::call(b'0', byte, s, deck, memory, protect, journal);
     let after = r.state;
-    show(name, r);
+    show(rt, name, r);
     after
 }
 
 // One step, shown. The step before it, with its return, leaves no trace but in unused journal words.
-fn step(s: State, deck: &[u16], memory: &mut [u16], protect: &[u8], journal: &mut [u32]) -> State {
+fn step(
+    rt: HostRuntime,
+    s: State,
+    deck: &[u16],
+    memory: &mut [u16],
+    protect: &[u8],
+    journal: &mut [u32],
+) -> State {
     let tried = step_and_return(s, 0, deck, memory, protect, journal);
     let before = tried.state;
-    called(b's', *b"step", before, deck, memory, protect, journal)
+    called(rt, b's', *b"step", before, deck, memory, protect, journal)
 }
 
 // One back step, shown.
-fn back(s: State, deck: &[u16], memory: &mut [u16], protect: &[u8], journal: &mut [u32]) -> State {
-    called(b'b', *b"back", s, deck, memory, protect, journal)
+fn back(
+    rt: HostRuntime,
+    s: State,
+    deck: &[u16],
+    memory: &mut [u16],
+    protect: &[u8],
+    journal: &mut [u32],
+) -> State {
+    called(rt, b'b', *b"back", s, deck, memory, protect, journal)
 }
 
-fn main() {
+fn main(rt: HostRuntime) {
     // LE 0 0 0, DE 0 0 2, CVFX 1 0 0, HALT 0 0 0
     let deck: [u16; 16] = [2, 0, 0, 0, 12, 0, 0, 2, 9, 1, 0, 0, 22, 0, 0, 0];
     let mut memory: [u16; 4] = [0x4130, 0, 0x4120, 0];
     let protect: [u8; 1] = [0; 1];
     let mut journal: [u32; 16] = [0; 16];
     let after = called(
+        rt,
         b'R',
         *b"run ",
         machine::fresh(),
@@ -118,12 +139,12 @@ fn main() {
         &protect,
         &mut journal,
     );
-    let s3 = back(after, &deck, &mut memory, &protect, &mut journal);
-    let s2 = back(s3, &deck, &mut memory, &protect, &mut journal);
-    let s1 = back(s2, &deck, &mut memory, &protect, &mut journal);
-    let s0 = back(s1, &deck, &mut memory, &protect, &mut journal);
-    let f1 = step(s0, &deck, &mut memory, &protect, &mut journal);
-    let f2 = step(f1, &deck, &mut memory, &protect, &mut journal);
-    let f3 = step(f2, &deck, &mut memory, &protect, &mut journal);
-    step(f3, &deck, &mut memory, &protect, &mut journal);
+    let s3 = back(rt, after, &deck, &mut memory, &protect, &mut journal);
+    let s2 = back(rt, s3, &deck, &mut memory, &protect, &mut journal);
+    let s1 = back(rt, s2, &deck, &mut memory, &protect, &mut journal);
+    let s0 = back(rt, s1, &deck, &mut memory, &protect, &mut journal);
+    let f1 = step(rt, s0, &deck, &mut memory, &protect, &mut journal);
+    let f2 = step(rt, f1, &deck, &mut memory, &protect, &mut journal);
+    let f3 = step(rt, f2, &deck, &mut memory, &protect, &mut journal);
+    step(rt, f3, &deck, &mut memory, &protect, &mut journal);
 }

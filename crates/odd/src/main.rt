@@ -6,6 +6,8 @@
 // the calls, two bytes each. For each call a line is written with its answer and every register of both
 // seats, and after the calls of a case the first 32 halfwords of memory and the first 32 words of the
 // journal, or all if fewer.
+#![tactic(auto)]
+
 mod start;
 mod values;
 
@@ -16,22 +18,21 @@ use start::read_start;
 use trial::{Input, Number};
 use values::{read_list, values_of};
 
-fn complain() -> bool {
-    trial::complain(b"odd")
+fn complain(rt: HostRuntime) -> bool {
+    trial::complain(rt, b"odd")
 }
 
-fn written_words(journal: &[u32]) -> bool {
+fn written_words(rt: HostRuntime, journal: &[u32]) -> bool {
     let mut t = trial::empty();
-    let mut i = 0;
-    while i < 32 && i < journal.len() {
-        t = trial::with_digits(t, 8, journal[i]);
-        i += 1;
+    for word in journal.iter().take(32) {
+        t = trial::with_digits(t, 8, *word);
     }
-    trial::write(trial::with_byte(t, b'\n'))
+    trial::write(rt, trial::with_byte(t, b'\n'))
 }
 
 // Reads the calls, k bytes, makes them, and writes what stands after them.
 fn run_case(
+    rt: HostRuntime,
     k: usize,
     space: &mut [u8],
     start: State,
@@ -41,18 +42,18 @@ fn run_case(
     journal: &mut [u32],
 ) -> bool {
     if space.len() < k {
-        return complain();
+        return complain(rt);
     }
     let calls = &mut space[..k];
-    let Input::Whole = trial::read_line(calls) else {
-        return complain();
+    let Input::Whole = trial::read_line(rt, calls) else {
+        return complain(rt);
     };
-    let listed = trial::list(calls, start, deck, memory, protect, journal);
-    listed.written && trial::write(trial::halfwords(memory, 32)) && written_words(journal)
+    let listed = trial::list(rt, calls, start, deck, memory, protect, journal);
+    listed.written && trial::write(rt, trial::halfwords(memory, 32)) && written_words(rt, journal)
 }
 
 // The lengths of a case; that of the calls in bytes.
-#[derive(Drop)]
+#[derive(Clone, Copy)]
 struct Sizes {
     deck: usize,
     memory: usize,
@@ -63,6 +64,7 @@ struct Sizes {
 
 // Lends the parts of the given lengths.
 fn lend(
+    rt: HostRuntime,
     n: Sizes,
     start: State,
     deck: &[u16],
@@ -76,18 +78,19 @@ fn lend(
     let p = n.protect;
     let j = n.journal;
     if deck.len() < d {
-        return complain();
+        return complain(rt);
     }
     if memory.len() < m {
-        return complain();
+        return complain(rt);
     }
     if protect.len() < p {
-        return complain();
+        return complain(rt);
     }
     if journal.len() < j {
-        return complain();
+        return complain(rt);
     }
     run_case(
+        rt,
         n.calls,
         &mut calls,
         start,
@@ -111,26 +114,24 @@ fn fill(
 )
     requires { (32 ≤ length deck.old) × (32 ≤ length memory.old) × (32 ≤ length protect.old) × (32 ≤ length journal.old) }
 {
-    let mut i = 0;
-    while i < 32 {
+    for i in 0..32 {
         deck[i] = (d[i] % 65536) as u16;
         memory[i] = (m[i] % 65536) as u16;
         protect[i] = (p[i] % 256) as u8;
         journal[i] = j[i];
-        i += 1;
     }
 }
 
 // Reads a case but for its first line and its calls. The buffers have more elements than any limit of
 // the machine.
-fn with_buffers(n: Sizes) -> bool {
-    let start = read_start();
-    let d = read_list(n.deck, 4);
-    let m = read_list(n.memory, 4);
-    let p = read_list(n.protect, 2);
-    let j = read_list(n.journal, 8);
+fn with_buffers(rt: HostRuntime, n: Sizes) -> bool {
+    let start = read_start(rt);
+    let d = read_list(rt, n.deck, 4);
+    let m = read_list(rt, n.memory, 4);
+    let p = read_list(rt, n.protect, 2);
+    let j = read_list(rt, n.journal, 8);
     if !(start.formed && d.formed && m.formed && p.formed && j.formed) {
-        return complain();
+        return complain(rt);
     }
     let mut deck = [0u16; 40000];
     let mut memory = [0u16; 40000];
@@ -147,7 +148,7 @@ fn with_buffers(n: Sizes) -> bool {
         &mut journal,
     );
     let s = start.state;
-    lend(n, s, &deck, &mut memory, &protect, &mut journal)
+    lend(rt, n, s, &deck, &mut memory, &protect, &mut journal)
 }
 
 fn wide(n: u32) -> usize {
@@ -155,32 +156,36 @@ fn wide(n: u32) -> usize {
 }
 
 // One case, and whether to go on.
-fn one_case() -> bool {
+fn one_case(rt: HostRuntime) -> bool {
     let mut head = [0u8; 26];
-    if !trial::case_begins(b"odd", &mut head) {
+    if !trial::case_begins(rt, b"odd", &mut head) {
         return false;
     }
     let lengths = values_of(10, &head, 4, 5, 6);
     let Number::Value(k) = trial::number_at(10, &head, 24, 2) else {
-        return complain();
+        return complain(rt);
     };
     if !lengths.formed {
-        return complain();
+        return complain(rt);
     }
     let v = lengths.value;
-    with_buffers(Sizes {
-        deck: wide(v[0]),
-        memory: wide(v[1]),
-        protect: wide(v[2]),
-        journal: wide(v[3]),
-        calls: k as usize * 2,
-    })
+    with_buffers(
+        rt,
+        Sizes {
+            deck: wide(v[0]),
+            memory: wide(v[1]),
+            protect: wide(v[2]),
+            journal: wide(v[3]),
+            calls: k as usize * 2,
+        },
+    )
 }
 
-// A proved loop has to end: the turns count down from a number that no run uses up.
-fn main() {
-    let mut turns = u64::MAX;
-    while turns > 0 && one_case() {
-        turns -= 1;
+// A proved loop has to end: the turns are more than any run uses up.
+fn main(rt: HostRuntime) {
+    for _ in 0..u64::MAX {
+        if !one_case(rt) {
+            break;
+        }
     }
 }

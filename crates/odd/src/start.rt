@@ -6,16 +6,16 @@ use crate::values::values_of;
 use machine::{Registers, State, Status};
 use trial::{Input, Number};
 
-fn read_used() -> Number {
+fn read_used(rt: HostRuntime) -> Number {
     let mut line = [0u8; 8];
-    let Input::Whole = trial::read_line(&mut line) else {
+    let Input::Whole = trial::read_line(rt, &mut line) else {
         return Number::Malformed;
     };
     trial::number_at(16, &line, 0, 8)
 }
 
 // What stands before a seat's registers.
-#[derive(Drop)]
+#[derive(Clone, Copy)]
 enum Heading {
     Read(Status),
     Malformed,
@@ -54,13 +54,13 @@ fn registers_from(v: [u32; 32], status: Status) -> Registers {
 }
 
 // A seat's line.
-#[derive(Drop)]
+#[derive(Clone, Copy)]
 struct Seat {
     registers: Registers,
     formed: bool,
 }
 
-fn read_seat() -> Seat {
+fn read_seat(rt: HostRuntime) -> Seat {
     let blank = machine::fresh();
     let registers = blank.seat0;
     let refused = Seat {
@@ -68,7 +68,7 @@ fn read_seat() -> Seat {
         formed: false,
     };
     let mut line = [0u8; 229];
-    let Input::Whole = trial::read_line(&mut line) else {
+    let Input::Whole = trial::read_line(rt, &mut line) else {
         return refused;
     };
     let Heading::Read(status) = heading_of(&line) else {
@@ -82,21 +82,21 @@ fn read_seat() -> Seat {
     }
 }
 
-#[derive(Drop)]
+#[derive(Clone, Copy)]
 pub struct Start {
     pub state: State,
     pub formed: bool,
 }
 
-pub fn read_start() -> Start {
-    let Number::Value(used) = read_used() else {
+pub fn read_start(rt: HostRuntime) -> Start {
+    let Number::Value(used) = read_used(rt) else {
         return Start {
             state: machine::fresh(),
             formed: false,
         };
     };
-    let first = read_seat();
-    let second = read_seat();
+    let first = read_seat(rt);
+    let second = read_seat(rt);
     let seat0 = first.registers;
     let seat1 = second.registers;
     Start {

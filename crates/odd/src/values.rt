@@ -4,7 +4,7 @@ ghost use Rattle.std.specs.Prelude.{◌≤◌};
 use trial::{Input, Number};
 
 // The numbers of a line; those that it does not have are 0.
-#[derive(Drop)]
+#[derive(Clone, Copy)]
 pub struct Values {
     pub value: [u32; 32],
     pub formed: bool,
@@ -35,7 +35,7 @@ pub fn values_of(base: u32, line: &[u8], count: usize, digits: usize, step: usiz
 }
 
 // The line of a list, with nothing between its elements.
-fn list_in(space: &mut [u8], count: usize, digits: usize) -> Values
+fn list_in(rt: HostRuntime, space: &mut [u8], count: usize, digits: usize) -> Values
     requires { (count ≤ 32) × (digits ≤ 8) }
 {
     let refused = Values {
@@ -47,7 +47,7 @@ fn list_in(space: &mut [u8], count: usize, digits: usize) -> Values
         return refused;
     }
     let line = &mut space[..size];
-    let Input::Whole = trial::read_line(line) else {
+    let Input::Whole = trial::read_line(rt, line) else {
         return refused;
     };
     values_of(16, line, count, digits, digits)
@@ -60,9 +60,9 @@ fn least(a: usize, b: usize) -> usize
 }
 
 // The first 32 elements of a list of n, or all if fewer.
-pub fn read_list(n: usize, digits: usize) -> Values
+pub fn read_list(rt: HostRuntime, n: usize, digits: usize) -> Values
     requires { digits ≤ 8 }
 {
     let mut space = [0u8; 256];
-    list_in(&mut space, least(n, 32), digits)
+    list_in(rt, &mut space, least(n, 32), digits)
 }

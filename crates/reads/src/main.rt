@@ -3,12 +3,14 @@
 // A case is a line `LLLLL CCCCC PPPPP VVVVV` and a text of L bytes. C cells of the deck are lent, 0 past the orders
 // read, and cell P of them is V (none where P is past them). For each case a line is written with 1, 5 or none, or
 // with the order and the register.
+#![tactic(auto)]
+
 use decktext::Reading;
 use trial::{Case, Head, Line};
 use unset::{Found, Register};
 
-fn complain() -> bool {
-    trial::complain(b"reads")
+fn complain(rt: HostRuntime) -> bool {
+    trial::complain(rt, b"reads")
 }
 
 fn with_register(t: Line, register: Register) -> Line {
@@ -31,42 +33,43 @@ fn line_of(found: Found) -> Line {
 }
 
 // The change and the question, on so many of the cells.
-fn ask(head: Head, cells: &mut [u16]) -> bool {
+fn ask(rt: HostRuntime, head: Head, cells: &mut [u16]) -> bool {
     let n = head.amount as usize;
     if cells.len() < n {
-        return complain();
+        return complain(rt);
     }
     let deck = &mut cells[..n];
     trial::change(deck, head.place, head.value);
-    trial::write(line_of(unset::first_unset(deck)))
+    trial::write(rt, line_of(unset::first_unset(deck)))
 }
 
 // On the desk's buffers, but with more cells than the largest deck has.
-fn run_case(text: &[u8], head: Head) -> bool {
+fn run_case(rt: HostRuntime, text: &[u8], head: Head) -> bool {
     let mut cells = [0u16; 20000];
     let mut memory = [0u16; 4096];
     let mut protect = [0u8; 512];
     let reading = decktext::read(text, &mut cells, &mut memory, &mut protect);
     let Reading::Taken(_) = reading else {
-        return complain();
+        return complain(rt);
     };
-    ask(head, &mut cells)
+    ask(rt, head, &mut cells)
 }
 
 // One case, and whether to go on.
-fn one_case() -> bool {
+fn one_case(rt: HostRuntime) -> bool {
     let mut line = [0u8; 23];
     let mut space = [0u8; 100000];
-    let Case::Read(head) = trial::next_case(b"reads", &mut line, &mut space) else {
+    let Case::Read(head) = trial::next_case(rt, b"reads", &mut line, &mut space) else {
         return false;
     };
-    run_case(trial::text_of(&space, head.length), head)
+    run_case(rt, trial::text_of(&space, head.length), head)
 }
 
-// A proved loop has to end: the turns count down from a number that no run uses up.
-fn main() {
-    let mut turns = u64::MAX;
-    while turns > 0 && one_case() {
-        turns -= 1;
+// A proved loop has to end: the turns are more than any run uses up.
+fn main(rt: HostRuntime) {
+    for _ in 0..u64::MAX {
+        if !one_case(rt) {
+            break;
+        }
     }
 }

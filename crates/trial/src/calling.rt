@@ -20,7 +20,7 @@ fn value_of(byte: u8) -> u32
 }
 
 // What a call of any kind answered.
-#[derive(Drop)]
+#[derive(Clone, Copy)]
 pub struct Called {
     pub state: State,
     pub count: u32,

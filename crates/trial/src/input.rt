@@ -1,7 +1,9 @@
 // Input by lines and numbers.
+use std::io::Print;
+use stream::read_full;
 
 // What was read.
-#[derive(Drop)]
+#[derive(Clone, Copy)]
 pub enum Input {
     Whole,
     End,
@@ -9,8 +11,8 @@ pub enum Input {
 }
 
 // Fills the space. The input ends where nothing is left of it.
-pub fn read_bytes(space: &mut [u8]) -> Input {
-    let got = io::read_full(libc::STDIN_FILENO, space);
+pub fn read_bytes(rt: HostRuntime, space: &mut [u8]) -> Input {
+    let got = read_full(&mut rt.stdin(), space);
     if got == space.len() {
         return Input::Whole;
     }
@@ -21,8 +23,8 @@ pub fn read_bytes(space: &mut [u8]) -> Input {
 }
 
 // The same for the bytes of a line, and the line feed that ends it.
-pub fn read_line(space: &mut [u8]) -> Input {
-    let input = read_bytes(space);
+pub fn read_line(rt: HostRuntime, space: &mut [u8]) -> Input {
+    let input = read_bytes(rt, space);
     match input {
         Input::Whole => {}
         Input::End => {
@@ -33,7 +35,7 @@ pub fn read_line(space: &mut [u8]) -> Input {
         }
     }
     let mut end = [0u8; 1];
-    read_bytes(&mut end);
+    read_bytes(rt, &mut end);
     if end[0] == b'\n' {
         Input::Whole
     } else {
@@ -42,24 +44,24 @@ pub fn read_line(space: &mut [u8]) -> Input {
 }
 
 // Tells on standard error that a case of a program's input is not of the form; false, as no case follows.
-pub fn complain(program: &[u8]) -> bool {
-    io::write_all(libc::STDERR_FILENO, program);
-    io::write_all(libc::STDERR_FILENO, b": a case is not of the form\n");
+pub fn complain(rt: HostRuntime, program: &[u8]) -> bool {
+    let _ = rt.stderr().write_all(program);
+    let _ = rt.stderr().write_all(b": a case is not of the form\n");
     false
 }
 
 // Whether a case begins, with its first line in the space: none does at the end of the input.
-pub fn case_begins(program: &[u8], space: &mut [u8]) -> bool {
-    let input = read_line(space);
+pub fn case_begins(rt: HostRuntime, program: &[u8], space: &mut [u8]) -> bool {
+    let input = read_line(rt, space);
     match input {
         Input::Whole => true,
         Input::End => false,
-        Input::Malformed => complain(program),
+        Input::Malformed => complain(rt, program),
     }
 }
 
 // A number that was read.
-#[derive(Drop)]
+#[derive(Clone, Copy)]
 pub enum Number {
     Value(u32),
     Malformed,
@@ -83,17 +85,15 @@ pub fn number_at(base: u32, text: &[u8], at: usize, digits: usize) -> Number {
     if length - at < digits {
         return Number::Malformed;
     }
-    let mut n: u64 = 0;
-    let mut i = 0;
-    while i < digits {
+    let mut n: u32 = 0;
+    for i in 0..digits {
         let d = digit_value(text[at + i]);
         if base <= d {
             return Number::Malformed;
         }
-        n = (n * base as u64 + d as u64) % 4294967296;
-        i += 1;
+        n = ((n as u64 * base as u64 + d as u64) % 4294967296) as u32;
     }
-    Number::Value(n as u32)
+    Number::Value(n)
 }
 
 // A cell becomes the value, cut to 16 bits; none does where there is no such cell.

@@ -3,6 +3,8 @@
 //
 // What a program writes is held to outside vectors, so the contracts here speak of the calls alone; of
 // the text it is proved that it is made safely.
+#![tactic(auto)]
+
 mod answer;
 mod calling;
 mod case;

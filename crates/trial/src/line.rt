@@ -1,9 +1,10 @@
 // A line of text. What does not fit is left out, so that nothing has to be shown of its length.
+use std::io::Print;
 
 // Room for the longest line, a call's with both seats, which has at most 530 bytes.
 const ROOM: usize = 576;
 
-#[derive(Drop)]
+#[derive(Clone, Copy)]
 pub struct Line {
     pub bytes: [u8; ROOM],
     pub length: usize,
@@ -28,10 +29,8 @@ pub fn with_byte(t: Line, b: u8) -> Line {
 
 pub fn with_bytes(t: Line, s: &[u8]) -> Line {
     let mut next = t;
-    let mut i = 0;
-    while i < s.len() {
-        next = with_byte(next, s[i]);
-        i += 1;
+    for b in s {
+        next = with_byte(next, *b);
     }
     next
 }
@@ -51,9 +50,7 @@ fn digit(w: u32) -> u8 {
 // The last k digits 0-9 A-F of w, of eight.
 pub fn with_digits(t: Line, k: u32, w: u32) -> Line {
     let mut next = t;
-    let mut left = k;
-    while 0 < left {
-        left -= 1;
+    for left in (0..k).rev() {
         next = with_byte(next, digit(w >> (left % 8 * 4)));
     }
     next
@@ -62,10 +59,8 @@ pub fn with_digits(t: Line, k: u32, w: u32) -> Line {
 // The words in eight digits, a blank after each.
 fn with_words(t: Line, words: &[u32]) -> Line {
     let mut next = t;
-    let mut i = 0;
-    while i < words.len() {
-        next = with_byte(with_digits(next, 8, words[i]), b' ');
-        i += 1;
+    for word in words {
+        next = with_byte(with_digits(next, 8, *word), b' ');
     }
     next
 }
@@ -91,10 +86,8 @@ fn wide(h: u16) -> u32 {
 // The halfwords of memory up to `most`, with nothing between them.
 pub fn halfwords(memory: &[u16], most: usize) -> Line {
     let mut t = empty();
-    let mut i = 0;
-    while i < memory.len() && i < most {
-        t = with_digits(t, 4, wide(memory[i]));
-        i += 1;
+    for h in memory.iter().take(most) {
+        t = with_digits(t, 4, wide(*h));
     }
     with_byte(t, b'\n')
 }
@@ -111,11 +104,11 @@ pub fn ended(t: Line) -> Line {
     next
 }
 
-pub fn write(t: Line) -> bool {
+pub fn write(rt: HostRuntime, t: Line) -> bool {
     let n = t.length;
     if ROOM < n {
         return false;
     }
     let bytes = t.bytes;
-    io::write_all(libc::STDOUT_FILENO, &bytes[..n])
+    rt.stdout().write_all(&bytes[..n]).is_ok()
 }

@@ -10,7 +10,7 @@ use crate::line::write;
 use machine::State;
 
 // What stands after the calls that were made, and whether each has its line.
-#[derive(Drop)]
+#[derive(Clone, Copy)]
 pub struct Listed {
     pub state: State,
     pub made: usize,
@@ -19,6 +19,7 @@ pub struct Listed {
 
 // Makes one call after the other, two bytes each, and writes a line for each; ends early where a line is not written.
 pub fn list(
+    rt: HostRuntime,
     calls: &[u8],
     start: State,
     deck: &[u16],
@@ -28,7 +29,7 @@ pub fn list(
 ) -> Listed
     ensures { (2 * result.made ≤ length calls.now)
         × (machine result.state memory.new journal.new
-        ≡ afterCalls calls.now deck.now (bitwise protect.now) result.made (machine start memory.old journal.old)) }
+        ≡ after_calls calls.now deck.now (bitwise protect.now) result.made (machine start memory.old journal.old)) }
 {
     let mut state = start;
     let mut made = 0;
@@ -37,7 +38,7 @@ pub fn list(
         let seat = calls[2 * made];
         let byte = calls[2 * made + 1];
         let r = call(seat, byte, state, deck, memory, protect, journal);
-        written = write(line_of(seat, byte, r));
+        written = write(rt, line_of(seat, byte, r));
         let after = r.state;
         state = after;
         made += 1;

@@ -3,12 +3,14 @@
 // A case is a line `LLLLL SSSSS PPPPP VVVVV R A` and a text of L bytes. Seat R runs S steps, cell P of the
 // deck becomes V (none where P is past the deck), and then the tool is asked about seat A. For each case
 // a line is written with the number and what it names.
+#![tactic(auto)]
+
 use cause::{Cause, Cell, Named};
 use decktext::Reading;
 use trial::{Case, Head, Line, Number};
 
-fn complain() -> bool {
-    trial::complain(b"why")
+fn complain(rt: HostRuntime) -> bool {
+    trial::complain(rt, b"why")
 }
 
 fn with_cell(t: Line, cell: Cell) -> Line {
@@ -46,7 +48,7 @@ fn line_of(c: Cause) -> Line {
 }
 
 // The seat that runs, and the one that is asked about.
-#[derive(Drop)]
+#[derive(Clone, Copy)]
 struct Seats {
     running: u32,
     asked: u32,
@@ -54,6 +56,7 @@ struct Seats {
 
 // The steps, the change and the question, on the deck of `count` orders.
 fn ask(
+    rt: HostRuntime,
     head: Head,
     seats: Seats,
     cells: &mut [u16],
@@ -74,20 +77,24 @@ fn ask(
     trial::change(deck, head.place, head.value);
     let state = ran.state;
     let seat = seats.asked;
-    trial::write(line_of(cause::why(state, seat, deck, memory, protect, journal)))
+    trial::write(
+        rt,
+        line_of(cause::why(state, seat, deck, memory, protect, journal)),
+    )
 }
 
 // On the desk's buffers.
-fn run_case(text: &[u8], head: Head, seats: Seats) -> bool {
+fn run_case(rt: HostRuntime, text: &[u8], head: Head, seats: Seats) -> bool {
     let mut cells = [0u16; 16384];
     let mut memory = [0u16; 4096];
     let mut protect = [0u8; 512];
     let mut journal = [0u32; 4096];
     let reading = decktext::read(text, &mut cells, &mut memory, &mut protect);
     let Reading::Taken(count) = reading else {
-        return complain();
+        return complain(rt);
     };
     ask(
+        rt,
         head,
         seats,
         &mut cells,
@@ -99,26 +106,27 @@ fn run_case(text: &[u8], head: Head, seats: Seats) -> bool {
 }
 
 // One case, and whether to go on.
-fn one_case() -> bool {
+fn one_case(rt: HostRuntime) -> bool {
     let mut line = [0u8; 27];
     let mut space = [0u8; 100000];
-    let Case::Read(head) = trial::next_case(b"why", &mut line, &mut space) else {
+    let Case::Read(head) = trial::next_case(rt, b"why", &mut line, &mut space) else {
         return false;
     };
     let Number::Value(running) = trial::number_at(10, &line, 24, 1) else {
-        return complain();
+        return complain(rt);
     };
     let Number::Value(asked) = trial::number_at(10, &line, 26, 1) else {
-        return complain();
+        return complain(rt);
     };
     let text = trial::text_of(&space, head.length);
-    run_case(text, head, Seats { running, asked })
+    run_case(rt, text, head, Seats { running, asked })
 }
 
-// A proved loop has to end: the turns count down from a number that no run uses up.
-fn main() {
-    let mut turns = u64::MAX;
-    while turns > 0 && one_case() {
-        turns -= 1;
+// A proved loop has to end: the turns are more than any run uses up.
+fn main(rt: HostRuntime) {
+    for _ in 0..u64::MAX {
+        if !one_case(rt) {
+            break;
+        }
     }
 }
