@@ -2,41 +2,12 @@
 // text is refused.
 #![tactic(auto)]
 
-ghost use Rattle.std.specs.Prelude.{◌≤◌, length};
+ghost use Rattle.std.specs.Prelude.{◌≤◌};
 
 use decktext::Reading;
 use listing::Listing;
-use std::io::{Print, Read};
-
-// How many bytes were read, or that a read failed.
-#[derive(Clone, Copy)]
-struct Input {
-    count: usize,
-    failed: bool,
-}
-
-// Reads until the input ends or the buffer is full.
-fn read_all<R: Read>(input: &mut R, buf: &mut [u8]) -> Input
-    ensures { result.count ≤ length buf.new }
-{
-    let mut count = 0;
-    while count < buf.len() {
-        match input.read(&mut buf[count..]) {
-            Ok(0) => break,
-            Ok(more) => count += more,
-            Err(_) => {
-                return Input {
-                    count,
-                    failed: true,
-                };
-            }
-        }
-    }
-    Input {
-        count,
-        failed: false,
-    }
-}
+use std::io::Print;
+use stream::read_all;
 
 fn complain(rt: HostRuntime, what: &[u8]) {
     let _ = rt.stderr().write_all(what);

@@ -1,23 +1,52 @@
 // Reading into a buffer, over any reader.
 #![tactic(auto)]
 
-ghost use Rattle.std.specs.Prelude.{◌≤◌, length, take};
-ghost use Rattle.std.specs.Io.KnownBytes.{Consumes};
+ghost use Rattle.std.specs.Prelude.{◌≡◌, ◌≤◌, ◌<◌, false, length, take};
+ghost use Rattle.std.specs.Io.KnownBytes.{Consumes, IsAtEnd};
 
 use std::io::Read;
 
-// Reads until the buffer is full, the input ends or a read fails, and says how many bytes stand at the buffer's start.
-pub fn read_full<R: Read>(input: &mut R, buf: &mut [u8]) -> usize
-    ensures bound { result ≤ length buf.new }
-    ensures bytes { Consumes (R.remaining input.old) (R.remaining input.new) (take result buf.new) }
+// How many bytes were read, or that a read failed.
+#[derive(Clone, Copy)]
+pub struct Input {
+    pub count: usize,
+    pub failed: bool,
+}
+
+// Reads until the input ends, the buffer is full or a read fails.
+pub fn read_all<R: Read>(input: &mut R, buf: &mut [u8]) -> Input
+    ensures bound { result.count ≤ length buf.new }
+    ensures bytes { Consumes (R.remaining input.old) (R.remaining input.new) (take result.count buf.new) }
+    ensures end { result.failed ≡ false → result.count < length buf.new → IsAtEnd (R.remaining input.new) }
 {
     let mut count = 0;
     while count < buf.len() {
         match input.read(&mut buf[count..]) {
-            Ok(0) => break,
-            Ok(n) => count += n,
-            Err(_) => break,
+            Ok(0) => {
+                return Input {
+                    count,
+                    failed: false,
+                };
+            }
+            Ok(more) => count += more,
+            Err(_) => {
+                return Input {
+                    count,
+                    failed: true,
+                };
+            }
         }
     }
-    count
+    Input {
+        count,
+        failed: false,
+    }
+}
+
+// The count alone, where a read that fails ends the input.
+pub fn read_full<R: Read>(input: &mut R, buf: &mut [u8]) -> usize
+    ensures bound { result ≤ length buf.new }
+    ensures bytes { Consumes (R.remaining input.old) (R.remaining input.new) (take result buf.new) }
+{
+    read_all(input, buf).count
 }
