@@ -28,7 +28,7 @@ pub fn list(
 ) -> Listed
     ensures { (2 * result.made ≤ length calls.now)
         × (machine result.state memory.new journal.new
-        ≡ afterCalls calls.now deck.now (bitwise protect.now) result.made (machine start memory.old journal.old)) }
+        ≡ after_calls calls.now deck.now (bitwise protect.now) result.made (machine start memory.old journal.old)) }
 {
     let mut state = start;
     let mut made = 0;
