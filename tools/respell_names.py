@@ -136,19 +136,24 @@ def main(dry):
             return turn(line, comment=True)
         return turn(m.group(1)) + turn(m.group(2), comment=True) if m else turn(line)
 
-    def rt_line(line):
-        bare = line.strip()
-        if bare.startswith("//"):
-            return turn(line, comment=True)
-        if re.match(r"(ghost use|ghost |requires|ensures|decreases)\b", bare):
-            return turn(line)
-        return line
+    def rt_text(text):
+        """The comments, clauses and ghost imports of a source, also those that go over several lines."""
+        lines, open_braces = [], 0
+        for line in text.split("\n"):
+            bare = line.strip()
+            begins = re.match(r"(ghost use|ghost|requires|ensures|decreases)\b", bare)
+            if open_braces or begins:
+                open_braces += line.count("{") - line.count("}")
+                lines.append(turn(line))
+            else:
+                lines.append(turn(line, comment=True) if bare.startswith("//") else line)
+        return "\n".join(lines)
 
     for path, text in texts.items():
         if path.endswith(".antt"):
             new = "\n".join(antt_line(l) for l in text.split("\n"))
         elif path.endswith(".rt"):
-            new = "\n".join(rt_line(l) for l in text.split("\n"))
+            new = rt_text(text)
         else:
             new = "\n".join(re.sub(r"(?<!-)\b[a-z][A-Za-z0-9]*\b", lambda m: names.get(m.group(0), m.group(0)), l) if re.match(r"(old|new): ", l) else l for l in text.split("\n"))
         if new != text:

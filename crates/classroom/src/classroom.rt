@@ -46,7 +46,7 @@ pub fn run(
     journal: &mut [u32],
 ) -> Answer
     ensures { Answers desks allotment deck.now protect.now (room (opened_all states) memory.old journal.old)
-        (saysAdmission result.admission) (room result.reports memory.new journal.new) }
+        (says_admission result.admission) (room result.reports memory.new journal.new) }
 {
     let all = reports(states);
     let admission = admit(desks, states, deck, memory, protect, journal);

@@ -49,7 +49,7 @@ pub fn line_of(r: Reading) -> u32
 
 pub fn read(text: &[u8], cells: &mut [u16], memory: &mut [u16], protect: &mut [u8]) -> Reading
     ensures { outcome (buffers cells.new memory.new (bitwise protect.new)) (says_reading result)
-        ≡ readText text.now (buffers cells.old memory.old (bitwise protect.old)) }
+        ≡ read_text text.now (buffers cells.old memory.old (bitwise protect.old)) }
 {
     if 32768 < text.len() {
         return Reading::NoRoom(0);

@@ -7,13 +7,13 @@ ghost use Rattle.machine.specs.Change.{
   registered,
   guarded,
   old_of,
-  floatAfter,
-  generalAfter,
-  putWord,
-  memoryAfter,
-  registersAfter,
-  floatChange,
-  storageChange,
+  float_after,
+  general_after,
+  put_word,
+  memory_after,
+  registers_after,
+  float_change,
+  storage_change,
 };
 
 use crate::operand::word_at;

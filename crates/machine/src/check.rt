@@ -1,11 +1,11 @@
 // Checks 1, 2, 3, 6 and 7.
 ghost use Rattle.std.specs.Prelude.{◌≡◌, ◌≤◌};
 ghost use Rattle.machine.specs.Check.{
-  deckSized,
-  buffersSized,
-  stateFormed,
+  deck_sized,
+  buffers_sized,
+  state_formed,
   present,
-  anyProtected,
+  any_protected,
 };
 ghost use Rattle.protection.specs.Bits.{bitwise};
 ghost use Rattle.machine.specs.Status.{condition_formed, status_formed};

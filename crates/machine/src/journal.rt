@@ -1,15 +1,15 @@
 // The journal's records.
 ghost use Rattle.std.specs.Prelude.{◌≡◌, ◌+◌, ◌*◌, ◌<◌, ◌≤◌, true, length};
 ghost use Rattle.machine.specs.Journal.{
-  fourWords,
-  recordAt,
+  four_words,
+  record_at,
   written,
-  encodedAs,
+  encoded_as,
   encoded,
-  seatIn,
-  saysChange,
+  seat_in,
+  says_change,
   in_register,
-  changeFrom,
+  change_from,
   decoded,
 };
 ghost use Rattle.machine.specs.Change.{registered, placed};

@@ -114,7 +114,7 @@ pub extern "C" fn panel_read(
     protect: &mut [u8],
 ) -> Answer
     ensures { reply (buffers cells.new memory.new (bitwise protect.new)) result.number result.value
-        ≡ replied (readText text.now (buffers cells.old memory.old (bitwise protect.old))) }
+        ≡ replied (read_text text.now (buffers cells.old memory.old (bitwise protect.old))) }
 {
     let reading = decktext::read(text, cells, memory, protect);
     match reading {
@@ -144,7 +144,7 @@ pub extern "C" fn panel_why(
     journal: &[u32],
 ) -> Explanation
     ensures { result
-        ≡ explanationOf (whyOf deck.now (bitwise protect.now) seat (machine state.now memory.now journal.now)) }
+        ≡ explanation_of (why_of deck.now (bitwise protect.now) seat (machine state.now memory.now journal.now)) }
 {
     why_by_value(*state, seat, deck, memory, protect, journal)
 }
@@ -153,7 +153,7 @@ pub extern "C" fn panel_why(
 #[unsafe(no_mangle)]
 pub extern "C" fn panel_chart(bound: u16, rank: u32, cells: &mut [u16]) -> Piece
     ensures { (cells.new ≡ (chart_into bound rank cells.old).cells)
-        × (result ≡ piece_of (chartInto bound rank cells.old).said) }
+        × (result ≡ piece_of (chart_into bound rank cells.old).said) }
 {
     let charted = chart::list(bound, rank, cells);
     match charted {

@@ -89,7 +89,7 @@ pub fn shortest(
     journal: &mut [u32],
 ) -> Answer
     ensures { Asked deck.now (bitwise protect.now) seat (machine s memory.old journal.old)
-        (machine result.state memory.new journal.new) (saysFound result.found) }
+        (machine result.state memory.new journal.new) (says_found result.found) }
 {
     let checks = machine::entry(
         seat,

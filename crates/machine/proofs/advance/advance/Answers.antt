@@ -1,0 +1,90 @@
+-- `machine::advance::advance` meets its contract: the invariant: what the steps so far and those that are left lead to, whatever registers the other seat has.
+-- Assumes nothing.
+use Rattle.std.proofs.Common.{◌-◌, [], sym, refl, ap, ◌∙◌, arith, rules}
+use Rattle.protection.specs.Bits.{bitwise}
+use Rattle.machine.specs.declared.state.Registers.{Registers}
+use Rattle.machine.specs.declared.state.Status.{Status}
+use Rattle.machine.specs.Machine.{registers, machine_of}
+use Rattle.machine.specs.Says.{says}
+use Rattle.machine.specs.Seats.{Beside}
+use Rattle.machine.proofs.Decided.{committable_seated}
+use Rattle.machine.proofs.Runs.{Under, under_start, under_on, under_stop, under_end}
+use Rattle.machine.proofs.Seats.{committed-seated}
+use Rattle.machine.proofs.advance.advance.Goals as goal
+
+-- the other seat with its status and no registers, of which no check asks anything
+abbrev bare : Status → Registers
+bare s = registers [] [] s
+
+pub loop-count-init : goal.loop-count-init
+loop-count-init c = λ o h. under_start _ _ _ _ _
+
+pub decide-v-requires : goal.decide-v-requires
+decide-v-requires c = tt
+
+pub shape_of-memory-in-Refused : goal.shape_of-memory-in-Refused
+shape_of-memory-in-Refused c = (c.loop-count.invariant (bare c.args.other) refl).memory
+
+pub shape_of-journal-in-Refused : goal.shape_of-journal-in-Refused
+shape_of-journal-in-Refused c = (c.loop-count.invariant (bare c.args.other) refl).journal
+
+pub returns-in-Refused : goal.returns-in-Refused
+returns-in-Refused c =
+    let r = c.ended.ensures in
+    λ o h. rw (r.0, r.1, r.2, r.3)
+    (sym (under_stop _ _ _ _ _ _ _ (c.loop-count.invariant o h) _ (omega (arith, c.loop-count-test.true)) (sym (c.decide-v.ensures o h) ∙ ap says c.in-Refused.is)))
+
+pub record_of-record-requires : goal.record_of-record-requires
+record_of-record-requires c =
+    let other = bare c.args.other in
+    let known = committable_seated _ _ _ _ _ _ _ _ _ (sym (c.decide-v.ensures other refl) ∙ ap says c.in-Granted.is) in
+    (known.register, known.there, known.seat, known.status)
+
+pub put-requires : goal.put-requires
+put-requires c =
+    let other = bare c.args.other in
+    let known = committable_seated _ _ _ _ _ _ _ _ _ (sym (c.decide-v.ensures other refl) ∙ ap says c.in-Granted.is) in
+    (known.register, known.selector)
+
+pub store-requires : goal.store-requires
+store-requires c =
+    let other = bare c.args.other in
+    let known = committable_seated _ _ _ _ _ _ _ _ _ (sym (c.decide-v.ensures other refl) ∙ ap says c.in-Granted.is) in
+    known.there
+
+pub write_record-requires : goal.write_record-requires
+write_record-requires c =
+    let other = bare c.args.other in
+    let known = committable_seated _ _ _ _ _ _ _ _ _ (sym (c.decide-v.ensures other refl) ∙ ap says c.in-Granted.is) in
+    known.room
+
+pub overflow_add-used : goal.overflow_add-used
+overflow_add-used c =
+    let other = bare c.args.other in
+    let known = committable_seated _ _ _ _ _ _ _ _ _ (sym (c.decide-v.ensures other refl) ∙ ap says c.in-Granted.is) in
+    omega (arith, known.count)
+
+pub overflow_add-count : goal.overflow_add-count
+overflow_add-count c = omega (arith, c.loop-count-test.true, c.ranges.limit.fits)
+
+pub loop-count-smaller : goal.loop-count-smaller
+loop-count-smaller c = omega (arith, c.loop-count-test.true)
+
+pub loop-count-preserved : goal.loop-count-preserved
+loop-count-preserved c =
+    let after = c.put.ensures in
+    λ o h. under_on _ _ _ _ _ _ _ (c.loop-count.invariant o h) _ _ (omega (arith, c.loop-count-test.true)) (sym (c.decide-v.ensures o h) ∙ ap says c.in-Granted.is)
+    (rw (after.0, after.1, c.store.ensures, c.write_record.ensures, c.record_of-record.ensures) (committed-seated _ _ _ _ _ _ _))
+    c.store.auto.memory
+    c.write_record.auto.journal
+
+pub shape_of-memory : goal.shape_of-memory
+shape_of-memory c = (c.loop-count.invariant (bare c.args.other) refl).memory
+
+pub shape_of-journal : goal.shape_of-journal
+shape_of-journal c = (c.loop-count.invariant (bare c.args.other) refl).journal
+
+pub returns : goal.returns
+returns c =
+    let r = c.ended-2.ensures in
+    λ o h. rw (r.0, r.1, r.2, r.3) (sym (under_end _ _ _ _ _ _ _ (c.loop-count.invariant o h) (omega (arith, c.loop-count-test.false))))

@@ -1,0 +1,7 @@
+-- `machine::effect::select` meets its contract: by the callee.
+-- Assumes nothing.
+use Rattle.std.proofs.Common.{rules}
+use Rattle.machine.proofs.effect.select.Goals as goal
+
+pub returns : goal.returns
+returns c = c.next.ensures

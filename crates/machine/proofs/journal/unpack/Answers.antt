@@ -1,0 +1,9 @@
+-- `machine::journal::unpack` meets its contract: the four parts.
+-- Assumes nothing.
+use Rattle.std.proofs.Common.{refl, rules}
+use Rattle.machine.specs.Status.{unpacked}
+use Rattle.machine.proofs.journal.unpack.Goals as goal
+
+pub returns : goal.returns
+unfolding unpacked
+returns c = refl
