@@ -15,9 +15,8 @@ pub fn values_of(base: u32, line: &[u8], count: usize, digits: usize, step: usiz
     requires { step ≤ 9 }
 {
     let mut value = [0u32; 32];
-    let mut i = 0;
     let mut at = 0;
-    while i < 32 && i < count {
+    for i in 0..least(count, 32) {
         let Number::Value(n) = trial::number_at(base, line, at, digits) else {
             return Values {
                 value,
@@ -26,7 +25,6 @@ pub fn values_of(base: u32, line: &[u8], count: usize, digits: usize, step: usiz
         };
         value[i] = n;
         at += step;
-        i += 1;
     }
     Values {
         value,
