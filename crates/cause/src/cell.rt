@@ -4,7 +4,7 @@ ghost use Rattle.cause.specs.Cell.{first_cell, breaks};
 
 use orders::{Legality, Order, look_up};
 
-#[derive(Drop)]
+#[derive(Clone, Copy)]
 pub enum Cell {
     Code,
     R1,

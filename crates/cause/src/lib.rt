@@ -2,6 +2,8 @@
 //
 // The checks of a step are made in the table's order, each with a search for its cause. Nothing is written,
 // and no function that this file exports has a `requires`.
+#![tactic(auto)]
+
 mod attempt;
 mod cell;
 mod finding;

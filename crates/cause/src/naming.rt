@@ -2,7 +2,7 @@
 use crate::cell::Cell;
 
 // What is named beside a number.
-#[derive(Drop)]
+#[derive(Clone, Copy)]
 pub enum Named {
     Nothing,
     Cell(Cell),
@@ -13,7 +13,7 @@ pub enum Named {
 }
 
 // The number of the stop that the next step gives, 18 where it is none of 20 and 1 to 11.
-#[derive(Drop)]
+#[derive(Clone, Copy)]
 pub struct Cause {
     pub number: u8,
     pub named: Named,

@@ -7,7 +7,7 @@ use crate::series::fill_series;
 use orders::{Legality, Order};
 
 // A code, and how many r1, r2 and `at` its orders have.
-#[derive(Drop)]
+#[derive(Clone, Copy)]
 pub struct Block {
     pub code: u16,
     pub r1s: u32,
@@ -16,7 +16,7 @@ pub struct Block {
 }
 
 // Which order of a block.
-#[derive(Drop)]
+#[derive(Clone, Copy)]
 pub struct Place {
     pub r1: u32,
     pub r2: u32,

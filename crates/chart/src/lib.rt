@@ -2,6 +2,8 @@
 // `at` below n where it is in use, rising by code, then r1, r2, at.
 //
 // The chart is had in pieces, from any rank on. What is public has no `requires`.
+#![tactic(auto)]
+
 mod block;
 mod listing;
 mod series;

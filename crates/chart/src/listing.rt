@@ -9,7 +9,7 @@ use crate::block::{Block, block_of, fill_block, fitting, size};
 const CODES: u16 = 36;
 
 // What a call answers.
-#[derive(Drop)]
+#[derive(Clone, Copy)]
 pub enum Charted {
     // The buffer's length is no multiple of four cells: number 19.
     Uneven,
@@ -17,7 +17,7 @@ pub enum Charted {
 }
 
 // How far the chart is: the orders of the blocks so far, how many are still to skip, and how many are written.
-#[derive(Drop)]
+#[derive(Clone, Copy)]
 pub struct Progress {
     pub total: u32,
     pub skip: u32,

@@ -27,7 +27,7 @@ use Rattle.conditions.specs.Trail.{Call, step, Entry, Earlier, entry_after, call
 use Rattle.conditions.specs.Theorems.{Typed, whole_of, machine_after, standing_after, steps_by, times, answer, Included, StartsAs, AsAlone}
 use Rattle.conditions.proofs.Calls.{steps_taken, snoc, times_last, times_reply}
 use Rattle.machine.proofs.Seats.{decided_of, entry_own, decided_own}
-use Rattle.conditions.proofs.Decisions.{held_after, registers_after}
+use Rattle.conditions.proofs.Decisions.{held_after, registers_after_lem}
 use Rattle.conditions.proofs.Entries.{first}
 use Rattle.conditions.proofs.Links.{Walk}
 use Rattle.conditions.proofs.Others.{effect_leaves}
@@ -140,7 +140,7 @@ module _ (d : List ℕ) (p : ProtectList) (journal k : ℕ) (seat : k ≤ 1) (al
     own_step : Beside (entry_after k e x) (suc n) (alone (suc n))
     own_step = subst (Beside (entry_after k e x) (suc n)) (sym stands) (record {
       registers =
-          registers_after k e (machine x.state x.memory []) ∙ ap (registers_after e) b.registers ∙ sym (registers_after k e (alone n));
+          registers_after_lem k e (machine x.state x.memory []) ∙ ap (registers_after e) b.registers ∙ sym (registers_after_lem k e (alone n));
       size = memory_length e.change x.memory ∙ b.size ∙ sym (memory_length e.change (alone n).memory);
       memory = λ a f. memory_alike e.change x.memory (alone n).memory b.size a (b.memory a f);
       checks = λ some. entry_again k (length d) p _ _ _ _ _ _ _ _ _ _ entry_here held_there;

@@ -33,8 +33,8 @@ held_after d p k s m journal e t =
 
 -- what a step of seat k leaves to it, and to the other
 module _ (k : ℕ) (e : Effect) (x : Machine) where
-  pub registers_after : registers_of k (committed k e x).state ≡ registers_after e (registers_of k x.state)
-  registers_after = registers_seated k (registers_after e (registers_of k x.state)) (other_of k x.state) (x.state.used + 1)
+  pub registers_after_lem : registers_of k (committed k e x).state ≡ registers_after e (registers_of k x.state)
+  registers_after_lem = registers_seated k (registers_after e (registers_of k x.state)) (other_of k x.state) (x.state.used + 1)
 
   pub other_after : other_of k (committed k e x).state ≡ other_of k x.state
   other_after = other_seated k (registers_after e (registers_of k x.state)) (other_of k x.state) (x.state.used + 1)

@@ -35,7 +35,7 @@ use Rattle.machine.specs.Operand.{float_operand, second_operand, address_in}
 use Rattle.machine.specs.Seats.{registers_of}
 use Rattle.machine.specs.Step.{Outcome, outcome, onward, next_order, verdict_of, stepped}
 use Rattle.machine.proofs.Decided.{Taken, decided_taken}
-use Rattle.conditions.proofs.Decisions.{registers_after}
+use Rattle.conditions.proofs.Decisions.{registers_after_lem}
 use Rattle.conditions.proofs.Leaves.{stop_number}
 
 -- a verb that only rows of some codes have
@@ -148,7 +148,7 @@ module _ (d : List ℕ) (p : ProtectList) (k : ℕ) (x : Machine) (jc : (next_or
   taken_on e h =
       let t = decided_taken d p k x.state x.memory (length x.journal) e h in
       let none = other_verb (λ v. is_jump v) jump_code rows_jump (next_order d k x) t.operation t.legal (no_jump_code (next_order d k x).code jc jn) in
-      ap (λ (r : Registers). r.status.pointer) (registers_after k e x)
+      ap (λ (r : Registers). r.status.pointer) (registers_after_lem k e x)
       ∙ cases (is_jump t.operation.verb) none (taken_led d p k x.state x.memory (length x.journal) e t).pointer
     where
       cases :

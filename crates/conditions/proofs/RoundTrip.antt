@@ -40,7 +40,7 @@ use Rattle.machine.proofs.Placed.{registered_float, registered_general}
 use Rattle.machine.proofs.Refusals.{decided_by}
 use Rattle.conditions.specs.Trail.{called, standing}
 use Rattle.conditions.specs.Theorems.{TypedRegisters, general_of, cvfx, cvfl, Not6To11, RoundTrip}
-use Rattle.conditions.proofs.Decisions.{registers_after}
+use Rattle.conditions.proofs.Decisions.{registers_after_lem}
 use Rattle.conditions.proofs.Leaves.{leaves_all}
 
 module _ (d : List ℕ) (p : ProtectList) (k : ℕ) where
@@ -166,7 +166,7 @@ module _ (d : List ℕ) (p : ProtectList) (k : ℕ) where
       unfolding float_after
       second_performs =
           let few : r1 ≤ 7 = registered_float refl first_taken.fine.registers in
-          let own = registers_after k floating x in
+          let own = registers_after_lem k floating x in
           fixes floated g r1 word (ap (λ (r : Registers). order_at d r.status.pointer) own ∙ second)
           (ap (λ (r : Registers). float_at r.float r1) own ∙ get_or-set_same (registers_of k x.state).float r1 (to_float word).word 0 (omega (arith, typed.float)))
 
@@ -185,8 +185,8 @@ module _ (d : List ℕ) (p : ProtectList) (k : ℕ) where
             let s = h.status.selector in
             let set : s ≤ 1 = second_taken.fine.selector in
             let few : g ≤ 7 = registered_general refl second_taken.fine.registers in
-            let there : length h.general ≡ 16 = ap (λ (r : Registers). length r.general) (registers_after k floating x) ∙ typed.general in
-            ap (λ (r : Registers). general_at r.general r.status.selector g) (registers_after k fixing floated)
+            let there : length h.general ≡ 16 = ap (λ (r : Registers). length r.general) (registers_after_lem k floating x) ∙ typed.general in
+            ap (λ (r : Registers). general_at r.general r.status.selector g) (registers_after_lem k fixing floated)
             ∙ register_there _ s g set few
             ∙ get_or-set_same h.general (general_cell s g) (homed word) 0 (omega (arith, there))
 
@@ -206,5 +206,5 @@ module _ (d : List ℕ) (p : ProtectList) (k : ℕ) where
       returns = λ t u. ap (λ (y : Machine). general_of k y g) (both_taken t u) ∙ returned t u;
       condition = λ t u.
           ap (λ (y : Machine). (registers_of k y.state).status.condition) (both_taken t u)
-          ∙ ap (λ (r : Registers). r.status.condition) (registers_after k fixing floated);
+          ∙ ap (λ (r : Registers). r.status.condition) (registers_after_lem k fixing floated);
     }

@@ -24,7 +24,7 @@ use Rattle.machine.specs.Seats.{registers_of}
 use Rattle.machine.specs.Step.{outcome, onward, verdict_of, stepped}
 use Rattle.machine.proofs.Decided.{Taken, decided_taken}
 use Rattle.conditions.specs.Theorems.{OneSetAfter, OneSet}
-use Rattle.conditions.proofs.Decisions.{registers_after}
+use Rattle.conditions.proofs.Decisions.{registers_after_lem}
 use Rattle.conditions.proofs.Onward.{only, other_verb, taken_led}
 
 -- no other row than that of code 35 has its verb
@@ -86,7 +86,7 @@ one_set d p k x = cases (verdict_of d p k x) refl
     cases : (v : Answer Effect) → verdict_of d p k x ≡ v → OneSetAfter d k x (after v)
     cases (stops n) h = record { other = λ s r z. refl; selector = λ z. refl }
     cases (gives e) h =
-        subst (OneSetAfter d k x) (sym (registers_after k e x))
+        subst (OneSetAfter d k x) (sym (registers_after_lem k e x))
         (record {
           other = λ s r z.
               rw ((taken e h).fine.general g.general)

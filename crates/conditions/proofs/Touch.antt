@@ -37,7 +37,7 @@ use Rattle.machine.proofs.Decided.{Taken, decided_taken}
 use Rattle.conditions.specs.Apart.{StoresTo}
 use Rattle.conditions.specs.Theorems.{AlikeTouched, AlikeBoth}
 use Rattle.machine.proofs.Seats.{decided_of, decided_own}
-use Rattle.conditions.proofs.Decisions.{registers_after}
+use Rattle.conditions.proofs.Decisions.{registers_after_lem}
 
 -- two memories that agree in `span` halfwords from a on
 abbrev pub Agree : List ℕ → List ℕ → ℕ → ℕ → Type 0
@@ -221,6 +221,6 @@ module _ (d : List ℕ) (p : ProtectList) (k : ℕ) (x y : Machine) (alike : Ali
       cases (gives e) = record {
         taken = refl;
         stop = refl;
-        registers = registers_after k e x ∙ ap (registers_after e) alike.registers ∙ sym (registers_after k e y);
+        registers = registers_after_lem k e x ∙ ap (registers_after e) alike.registers ∙ sym (registers_after_lem k e y);
         memory = memory_alike e.change x.memory y.memory alike.size;
       }

@@ -229,7 +229,7 @@ module _ (d : List ℕ) (p : ProtectList) (x : Machine) (start : Behind p (lengt
   back_covered : (e : Entry) (es : List Earlier) → first e es ≡ whole_of x → Behind p (length x.journal) (trail e es) → ⊥
   unfolding first
   back_covered e [] h b =
-      start (record { alone = refl; passes = rw (sym h) b.passes; records = rw (sym h) b.records })
+      start (record { alone = refl; passes = subst (λ (z : Entry). held_at p (length x.journal) z ≡ 0) h b.passes; records = subst (λ (z : Entry). 0 < z.state.used) h b.records })
   back_covered e (y ∷ ys) h b = let z : ◌≡◌ {A = ℕ} 0 1 = let q = b.alone in cc in omega arith
 
   call_covered : (c : Call) (t : Trail) → first t.last t.earlier ≡ whole_of x → Covered d p (length x.journal) c t

@@ -37,7 +37,7 @@ use Rattle.machine.proofs.Placed.{some}
 use Rattle.machine.proofs.Rows.{legal_passed}
 use Rattle.conditions.specs.Theorems.{AlikeRead, AlikeAfter}
 use Rattle.machine.proofs.Seats.{decided_of, decided_own}
-use Rattle.conditions.proofs.Decisions.{registers_after, other_after}
+use Rattle.conditions.proofs.Decisions.{registers_after_lem, other_after}
 use Rattle.conditions.proofs.Leaves.{stop_number}
 use Rattle.conditions.proofs.Written.{written_decided}
 
@@ -207,11 +207,11 @@ module _ (d : List ℕ) (p : ProtectList) (k : ℕ) (x y : Machine) (alike : Ali
       cases (gives e) t = record {
         taken = refl;
         stop = refl;
-        status = ap (λ (r : Registers). r.status) (registers_after k e x) ∙ ap (λ (r : Registers). r.status) (sym (registers_after k e y));
+        status = ap (λ (r : Registers). r.status) (registers_after_lem k e x) ∙ ap (λ (r : Registers). r.status) (sym (registers_after_lem k e y));
         beside = ap (λ (r : Registers). r.status) (other_after k e x) ∙ alike.beside ∙ ap (λ (r : Registers). r.status) (sym (other_after k e y));
         used = ap (λ (n : ℕ). n + 1) alike.used;
         memory = ap (memory_after e.change) alike.memory;
         written = λ z r n.
             let w = written_decided d p k x e t r n in
-            ap (λ (q : Registers). contents q r) (registers_after k e x) ∙ w.1 g alike.typed ∙ sym (w.1 h alike.typed_too) ∙ ap (λ (q : Registers). contents q r) (sym (registers_after k e y));
+            ap (λ (q : Registers). contents q r) (registers_after_lem k e x) ∙ w.1 g alike.typed ∙ sym (w.1 h alike.typed_too) ∙ ap (λ (q : Registers). contents q r) (sym (registers_after_lem k e y));
       }

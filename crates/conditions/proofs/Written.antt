@@ -39,7 +39,7 @@ use Rattle.machine.specs.Step.{outcome, onward, next_order, next_address, verdic
 use Rattle.machine.specs.Uses.{Register, float, general, contents, floats, named, written_by}
 use Rattle.machine.proofs.Decided.{Taken, decided_taken}
 use Rattle.conditions.specs.Theorems.{TypedRegisters, NextWrites}
-use Rattle.conditions.proofs.Decisions.{registers_after}
+use Rattle.conditions.proofs.Decisions.{registers_after_lem}
 use Rattle.conditions.proofs.Sets.{other_general}
 
 -- the registers that a change overwrites, a general one being of set s
@@ -203,6 +203,6 @@ module _ (d : List ℕ) (p : ProtectList) (k : ℕ) (x : Machine) where
       cases (stops n) h = refl
       cases (gives e) h =
           let t = taken e h in
-          ap (λ (q : Registers). contents q r) (registers_after k e x)
+          ap (λ (q : Registers). contents q r) (registers_after_lem k e x)
           ∙ kept e g r t.fine.registers
           (λ m. no_write (record { operation = t.operation; legal = t.legal; writes = rw (taken_touched e h t.operation t.legal) at m }))

@@ -18,7 +18,7 @@ use crate::span::find;
 use crate::value::Value;
 
 // The order count, or a refusal with its line. Line 0 is a text above its limit.
-#[derive(Drop)]
+#[derive(Clone, Copy)]
 pub enum Reading {
     Taken(u32),
     Malformed(u32),
@@ -68,7 +68,7 @@ pub fn read(text: &[u8], cells: &mut [u16], memory: &mut [u16], protect: &mut [u
 }
 
 // What a walk answers, and how many halfwords it staged.
-#[derive(Drop)]
+#[derive(Clone, Copy)]
 pub struct Found {
     pub reading: Reading,
     pub halfwords: usize,

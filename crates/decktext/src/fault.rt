@@ -1,5 +1,5 @@
 // What is wrong with a line, if anything.
-#[derive(Drop)]
+#[derive(Clone, Copy)]
 pub enum Fault {
     Nothing,
     Malformed,

@@ -8,14 +8,14 @@ use orders::Order;
 use protection::mark;
 
 // A halfword of memory with its protect digit.
-#[derive(Drop)]
+#[derive(Clone, Copy)]
 pub struct Halfword {
     pub at: u16,
     pub protect: u16,
     pub word: u16,
 }
 
-#[derive(Drop)]
+#[derive(Clone, Copy)]
 pub enum Given {
     Headed,
     Ordered(Order),

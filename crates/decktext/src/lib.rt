@@ -2,6 +2,8 @@
 //
 // The whole text is checked before anything is written, so a refused text leaves every buffer as it
 // was. The format is a definition of specs/ over lines and values.
+#![tactic(auto)]
+
 mod deck;
 mod digit;
 mod fault;

@@ -16,7 +16,7 @@ use crate::value::{Value, decimal, protect, word};
 use orders::{Legality, Order};
 use protection::byte_of;
 
-#[derive(Drop)]
+#[derive(Clone, Copy)]
 pub enum Wanted {
     Heading,
     Order,
@@ -25,14 +25,14 @@ pub enum Wanted {
 }
 
 // What the lines so far gave, but for the buffers.
-#[derive(Drop)]
+#[derive(Clone, Copy)]
 pub struct Progress {
     pub wanted: Wanted,
     pub count: u32,
     pub least: u32,
 }
 
-#[derive(Drop)]
+#[derive(Clone, Copy)]
 pub struct Sizes {
     pub cells: usize,
     pub memory: usize,
@@ -60,7 +60,7 @@ pub fn start() -> Progress
     }
 }
 
-#[derive(Drop)]
+#[derive(Clone, Copy)]
 pub enum Judged {
     Gives(Given),
     Malformed,

@@ -8,7 +8,7 @@ ghost use Rattle.decktext.specs.Walk.{LineFrom, line_of};
 use crate::span::find;
 
 // The text, the place where the next line begins, and where the line before it ends.
-#[derive(Drop)]
+#[derive(Clone, Copy)]
 pub struct LineReader<'a> {
     pub text: &'a [u8],
     pub at: usize,
@@ -16,7 +16,7 @@ pub struct LineReader<'a> {
 }
 
 // Where a line ends and where the next one begins.
-#[derive(Drop)]
+#[derive(Clone, Copy)]
 pub struct LineSpan {
     pub end: usize,
     pub next: usize,

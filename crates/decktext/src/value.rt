@@ -6,7 +6,7 @@ ghost use Rattle.decktext.specs.Walk.{number_in};
 
 use crate::digit::digit;
 
-#[derive(Drop)]
+#[derive(Clone, Copy)]
 pub enum Value {
     Of(u16),
     Malformed,

@@ -1,0 +1,62 @@
+-- `cause::finding::access` meets its contract: the checks in turn, by the laws of what is answered.
+-- Assumes nothing.
+use Prim.Native.Nat.{◌<◌}
+use mathlib.Core.Path.{sym, ap, ◌∙◌}
+use native.Mathlib.Omega.{arith}
+use borrow.Author.Rules.{rules}
+use Rattle.protection.specs.Bits.{bitwise}
+use Rattle.machine.specs.Fetch.{says_fetched}
+use Rattle.machine.specs.Operand.{address_in}
+use Rattle.orders.proofs.Addresses.{address_below}
+use Rattle.machine.proofs.Rows.{legal_passed}
+use Rattle.cause.proofs.Explained.{unread, explain_absent, explain_protected, explain_taken, explain_words}
+use Rattle.cause.proofs.finding.access.Goals as goal
+use Rattle.cause.proofs.finding.access.Goals.{Start}
+
+-- by what the cell's type says
+small : (c : Start) → address_in c.args.o c.args.registers < 131071
+small c = address_below c.args.o c.args.registers.general c.args.registers.status.selector (search rules)
+
+pub lowest_absent-requires : goal.lowest_absent-requires
+lowest_absent-requires c =
+    let below = small (goal.at.lowest_absent-requires c).Start in
+    omega (arith, c.address-at.ensures, c.span.ensures, (legal_passed _ _ c.requires.legal).span)
+
+pub returns-in_default : goal.returns-in_default
+returns-in_default c =
+    let x = c in
+    let absent = unread x.args.op x.args.o x.args.registers x.args.memory.now _ x.requires.legal c.fetch-fetched.result c.in_default.in_default-own.keys2 c.fetch-fetched.ensures in
+    rw (c.lowest_absent.ensures, c.span.ensures, c.address-at.ensures) (sym (explain_absent x.args.op x.args.o x.args.registers (bitwise x.args.protect.now) x.args.memory.now x.requires absent))
+
+pub lowest_protected-a-requires : goal.lowest_protected-a-requires
+lowest_protected-a-requires c =
+    let below = small (goal.at.lowest_protected-a-requires c).Start in
+    let w = legal_passed _ _ c.requires.legal in
+    omega (arith, c.address-at.ensures, c.stored-n.ensures, w.stored, w.span)
+
+pub overflow_add-at : goal.overflow_add-at
+overflow_add-at c =
+    let below = small (goal.at.overflow_add-at c).Start in
+    let w = legal_passed _ _ c.requires.legal in
+    omega (arith, c.address-at.ensures, c.stored-n.ensures, w.stored, w.span)
+
+pub returns-then-a-at : goal.returns-then-a-at
+returns-then-a-at c =
+    let x = c in
+    let e = sym (ap says_fetched c.in-Read.is) ∙ c.fetch-fetched.ensures in
+    let low = rw (c.lowest_protected-a.ensures, c.stored-n.ensures, c.address-at.ensures) at c.if-a-at.true in
+    rw (c.lowest_protected-a.ensures, c.stored-n.ensures, c.address-at.ensures) (sym (explain_protected x.args.op x.args.o x.args.registers (bitwise x.args.protect.now) x.args.memory.now x.requires _ e low))
+
+pub returns-then-number-eq0 : goal.returns-then-number-eq0
+returns-then-number-eq0 c =
+    let x = c in
+    let e = sym (ap says_fetched c.in-Read.is) ∙ c.fetch-fetched.ensures in
+    let free = rw (c.lowest_protected-a.ensures, c.stored-n.ensures, c.address-at.ensures) at c.if-a-at.false in
+    c.alone.ensures ∙ sym (explain_taken x.args.op x.args.o x.args.registers (bitwise x.args.protect.now) x.args.memory.now x.requires _ e free (sym c.attempt-number.ensures ∙ c.if-number-eq0.true))
+
+pub returns : goal.returns
+returns c =
+    let x = c in
+    let e = sym (ap says_fetched c.in-Read.is) ∙ c.fetch-fetched.ensures in
+    let free = rw (c.lowest_protected-a.ensures, c.stored-n.ensures, c.address-at.ensures) at c.if-a-at.false in
+    rw (c.attempt-number.ensures, c.words_read-named.ensures) (sym (explain_words x.args.op x.args.o x.args.registers (bitwise x.args.protect.now) x.args.memory.now x.requires _ e free (rw (← c.attempt-number.ensures) (search rules))))

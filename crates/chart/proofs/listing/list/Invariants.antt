@@ -1,0 +1,17 @@
+use Prim.Native.Nat.{◌-◌, ◌/◌, ◌≤◌}
+use mathlib.Core.Path.{◌≡◌}
+use native.Mathlib.Omega.{arith}
+use borrow.Author.Rules.{rules}
+use borrow.Author.Tests.{ne_eqb}
+use lib.ListN.{length}
+use Rattle.chart.specs.Piece.{piece, chart_into}
+use Rattle.chart.specs.Writing.{writing, put}
+use Rattle.chart.proofs.Charting.{ChartLeft, chart-start, chart_fits, chart_on, chart-answer}
+use Rattle.chart.proofs.listing.list.Given as goal
+
+abbrev pub invariant-loop-code : goal.invariant-loop-code
+invariant-loop-code l =
+    (l.code ≤ 36) × ChartLeft (put (piece l.n l.rank (length l.initial.cells / 4)) (writing l.initial.cells 0)) l.n (length l.initial.cells) (length l.initial.cells / 4) l.code l.cells l.s
+
+abbrev pub decreases-loop-code : goal.decreases-loop-code
+decreases-loop-code l = 36 - l.code

@@ -1,0 +1,18 @@
+use Prim.Native.Nat.{◌+◌, ◌-◌, ◌≤◌}
+use mathlib.Core.Path.{◌≡◌, refl, sym, subst}
+use native.Mathlib.Omega.{arith}
+use borrow.Author.Rules.{rules}
+use lib.ListN.{length}
+use Rattle.chart.specs.Block.{series}
+use Rattle.chart.specs.Chart.{order}
+use Rattle.chart.specs.Writing.{Writing, writing, put}
+use Rattle.chart.proofs.Left.{SeriesLeft, series_on, series_end}
+use Rattle.chart.proofs.series.fill_series.Given as goal
+
+abbrev pub invariant-loop-at : goal.invariant-loop-at
+invariant-loop-at l =
+    (l.at ≤ l.end)
+    × SeriesLeft (put (series l.first l.m) (writing l.initial.cells l.count)) (length l.initial.cells) (order l.first.code l.first.r1 l.first.r2 l.at) (l.end - l.at) (writing l.cells l.done)
+
+abbrev pub decreases-loop-at : goal.decreases-loop-at
+decreases-loop-at l = l.end - l.at
