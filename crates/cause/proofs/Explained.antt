@@ -8,8 +8,6 @@ use lib.ListN.{length}
 use native.Mathlib.Omega.{arith}
 use borrow.Author.Tests.{lt-ltb, le-ltb}
 use mathlib.Core.Logic.{inl, inr}
-use types.Run.{OneOf}
-use denote.Enum.Declared.{tag_of}
 use Rattle.hexfloat.specs.Answer.{Answer, gives, stops, provided, checked}
 use Rattle.orders.specs.declared.order.Operation.{Operation}
 use Rattle.orders.specs.declared.order.Order.{Order}
@@ -29,7 +27,6 @@ use Rattle.machine.specs.Machine.{machine}
 use Rattle.machine.specs.Seats.{registers_of}
 use Rattle.machine.specs.Step.{stepped}
 use Rattle.machine.proofs.Checks.{entry_number}
-use Rattle.machine.specs.contracts.fetching.Fetched as fetched-type
 use Rattle.hexfloat.proofs.Answers.{gives_inj, never}
 use Rattle.cause.specs.declared.naming.Cause.{Cause}
 use Rattle.cause.specs.declared.naming.Named.{Named}
@@ -59,11 +56,10 @@ module _ (op : Operation) (o : Order) (g : Registers) (m : List ℕ) (a : ℕ) (
       cases true e = never e
       cases false e = refl
 
-  pub unread : (r : Fetched) → OneOf (1 ∷ 2 ∷ []) (tag_of fetched-type.the_type r) → says_fetched r ≡ read → there ≡ false
-  unread (Fetched.Read q) (inl e) h = absurd (omega arith)
-  unread (Fetched.Read q) (inr e) h = absurd (omega arith)
-  unread Fetched.Illegal t h = not_given 5 h
-  unread Fetched.Absent t h = not_given 6 h
+  pub unread : (r : Fetched) → ((q : Operands) → r ≡ Fetched.Read q → ⊥) → says_fetched r ≡ read → there ≡ false
+  unread (Fetched.Read q) never_read h = absurd (never_read q refl)
+  unread Fetched.Illegal never_read h = not_given 5 h
+  unread Fetched.Absent never_read h = not_given 6 h
 
   given : (q : Operands) → gives q ≡ read → (there ≡ true) × (q ≡ operands_of o g.float g.general g.status.selector m a op)
   unfolding operands_read

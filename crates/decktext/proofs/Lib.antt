@@ -2,7 +2,6 @@
 mod Same
 mod Tags
 mod Tested
-mod Held
 mod Digits
 mod DigitTable
 mod Names

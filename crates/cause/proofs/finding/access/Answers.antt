@@ -25,7 +25,7 @@ lowest_absent-requires c =
 pub returns-in_default : goal.returns-in_default
 returns-in_default c =
     let x = c in
-    let absent = unread x.args.op x.args.o x.args.registers x.args.memory.now _ x.requires.legal c.fetch-fetched.result c.in_default.in_default-own.keys2 c.fetch-fetched.ensures in
+    let absent = unread x.args.op x.args.o x.args.registers x.args.memory.now _ x.requires.legal c.fetch-fetched.result c.in_default.not-Read c.fetch-fetched.ensures in
     rw (c.lowest_absent.ensures, c.span.ensures, c.address-at.ensures) (sym (explain_absent x.args.op x.args.o x.args.registers (bitwise x.args.protect.now) x.args.memory.now x.requires absent))
 
 pub lowest_protected-a-requires : goal.lowest_protected-a-requires

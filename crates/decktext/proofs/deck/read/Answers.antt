@@ -33,13 +33,13 @@ abbrev walked : In-Taken-2 → After-walk-walked
 walked c = c.before.before
 
 abbrev count : In-Taken-2 → ℕ
-count c = c.reading.given.0.0
+count c = c.in-Taken.n
 
 taken_as : (c : In-Taken-2) → (walked c).walk.result.reading ≡ Reading.Taken (count c)
 taken_as c = c.in-Taken.is
 
 pub returns-in_default : goal.returns-in_default
-returns-in_default c = refusal c.walk-walked.ensures (limit (goal.at.returns-in_default c).After-walk-walked) (λ n e. not_first c.in_default.keys2 (ap (tag_of reading-type.the_type) e))
+returns-in_default c = refusal c.walk-walked.ensures (limit (goal.at.returns-in_default c).After-walk-walked) (λ n e. not_first c.in_default.in_default-own.keys2 (ap (tag_of reading-type.the_type) e))
 
 pub put_orders-requires : goal.put_orders-requires
 put_orders-requires c =

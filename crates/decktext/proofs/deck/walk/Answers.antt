@@ -25,69 +25,69 @@ use Rattle.decktext.proofs.deck.walk.Goals as goal
 use Rattle.decktext.proofs.deck.walk.Goals.{After-fault_of-fault, After-judge-judged, After-next_line-end, After-values_wanted-wanted, At-lines, Else-end-text, In-Gives, In_default}
 
 -- at the head of the walk: the text, the buffers that are lent, and the progress that the definition has
-abbrev text : At-lines invariant-loop decreases-loop invariant-lines decreases-lines → List ℕ
-text c = c.before.before.before.before.before.before.before.before.before.args.text.now
+abbrev text : At-lines → List ℕ
+text c = c.args.text.now
 
-abbrev lent : At-lines invariant-loop decreases-loop invariant-lines decreases-lines → Buffers
-lent c = buffers c.before.before.before.before.before.before.before.before.before.args.cells.now c.before.before.before.before.before.before.before.before.before.args.memory.now (bitwise c.before.before.before.before.before.before.before.before.before.args.protect.now)
+abbrev lent : At-lines → Buffers
+lent c = buffers c.args.cells.now c.args.memory.now (bitwise c.args.protect.now)
 
-abbrev progress : At-lines invariant-loop decreases-loop invariant-lines decreases-lines → Progress
+abbrev progress : At-lines → Progress
 progress c = reached c.lines.p c.lines.halfwords c.lines.staged (lent c)
 
-limit : (c : At-lines invariant-loop decreases-loop invariant-lines decreases-lines) → length (text c) ≤ 32768
-limit c = c.before.before.before.before.before.before.before.before.before.requires.0
+limit : (c : At-lines) → length (text c) ≤ 32768
+limit c = c.requires.0
 
-abbrev wanted-at : At-lines invariant-loop decreases-loop invariant-lines decreases-lines → Wanted
+abbrev wanted-at : At-lines → Wanted
 wanted-at c = wanted_of c.lines.p.wanted
 
 -- the place is inside the text, so the line ends at an LF or at the text's end
-end-at : (c : After-next_line-end invariant-loop decreases-loop invariant-lines decreases-lines) → Stretch (text c.before.before) c.lines.at (length (text c.before.before)) 10 c.next-line.result.end
-end-at c = c.next-line.ensures.inside (omega (arith, c.lines-test.true))
+end-at : (c : After-next_line-end) → Stretch (text c.before.before) c.lines.at (length (text c.before.before)) 10 c.next_line-end.result.end
+end-at c = c.next_line-end.ensures.inside (omega (arith, c.lines-test.true))
 
 -- the line that ends where the LF was found
-abbrev line_at : After-next_line-end invariant-loop decreases-loop invariant-lines decreases-lines → List ℕ
-line_at c = part c.lines.at c.next-line.result.end (text c.before.before)
+abbrev line_at : After-next_line-end → List ℕ
+line_at c = part c.lines.at c.next_line-end.result.end (text c.before.before)
 
 -- the line ends within the text
-ended : (c : Else-end-text invariant-loop decreases-loop invariant-lines decreases-lines) → c.next_line-end.result.end < length (text c.before.before.before)
+ended : (c : Else-end-text) → c.next_line-end.result.end < length (text c.before.before.before)
 ended c = let no = c.if-end-text.false in omega (arith, (end-at c.before).high)
 
-past_end : (c : Else-end-text invariant-loop decreases-loop invariant-lines decreases-lines) → c.next_line-end.result.next ≡ c.next_line-end.result.end + 1
+past_end : (c : Else-end-text) → c.next_line-end.result.next ≡ c.next_line-end.result.end + 1
 past_end c = c.next_line-end.ensures.after (ended c)
 
 -- the count of values, by the line's bytes
-counted : (c : After-values_wanted-wanted invariant-loop decreases-loop invariant-lines decreases-lines) → c.values-wanted.result ≡ value_count (wanted-at c.before.before.before.before) (length (line_at c.before.before))
-counted c = c.values-wanted.ensures ∙ ap (λ (n : ℕ). value_count (wanted-at c.before.before.before.before) n) (sym (length_part c.lines.at c.next_line-end.result.end (text c.before.before.before.before) (end-at c.before.before).low (end-at c.before.before).high))
+counted : (c : After-values_wanted-wanted) → c.values_wanted-wanted.result ≡ value_count (wanted-at c.before.before.before.before) (length (line_at c.before.before))
+counted c = c.values_wanted-wanted.ensures ∙ ap (λ (n : ℕ). value_count (wanted-at c.before.before.before.before) n) (sym (length_part c.lines.at c.next_line-end.result.end (text c.before.before.before.before) (end-at c.before.before).low (end-at c.before.before).high))
 
 -- what the line is judged to give is what the definition reads
-answer : (c : After-judge-judged invariant-loop decreases-loop invariant-lines decreases-lines) → line_read (progress c.before.before.before.before.before.before.before.before) (line_at c.before.before.before.before.before.before) ≡ says_judged c.judge.result
+answer : (c : After-judge-judged) → line_read (progress c.before.before.before.before.before.before.before.before) (line_at c.before.before.before.before.before.before) ≡ says_judged c.judge-judged.result
 unfolding line_read
 answer c =
     judged (wanted-at c.before.before.before.before.before.before.before.before) (progress c.before.before.before.before.before.before.before.before) (line_at c.before.before.before.before.before.before) c.loop-i.values c.loop-i.invariant.1.size
     (values_at (wanted-at c.before.before.before.before.before.before.before.before) (line_at c.before.before.before.before.before.before) c.values_wanted-wanted.result c.loop-i.values (counted c.before.before.before.before)
     (λ h. c.loop-i.invariant.1.taken h (omega (arith, c.loop-i.invariant.1.within, c.loop-i-test.false))))
-    ∙ sym (c.judge.ensures (progress c.before.before.before.before.before.before.before.before).held c.lines.invariant.1.sized)
+    ∙ sym (c.judge-judged.ensures (progress c.before.before.before.before.before.before.before.before).held c.lines.invariant.1.sized)
 
 -- a value that is none
-bad-value : (c : In_default invariant-loop decreases-loop invariant-lines decreases-lines) → text_read (text c.before.before.before.before.before.before.before.before.before.before.before) (lent c.before.before.before.before.before.before.before.before.before.before.before) ≡ faulty 16 c.lines.line
+bad-value : (c : In_default) → text_read (text c.before.before.before.before.before.before.before.before.before.before.before) (lent c.before.before.before.before.before.before.before.before.before.before.before) ≡ faulty 16 c.lines.line
 unfolding line_read
 bad-value c =
     stopped c.lines.invariant.1 (end-at c.before.before.before.before.before.before.before.before.before) (ended c.before.before.before.before.before.before.before.before) 16
     (faulty_line (wanted-at c.before.before.before.before.before.before.before.before.before.before.before) (progress c.before.before.before.before.before.before.before.before.before.before.before) (line_at c.before.before.before.before.before.before.before.before.before) (rw (← counted c.before.before.before.before.before.before.before) (omega (arith, c.loop-i-test.true)))
-    (bad c.loop-i.invariant.1 c.loop-i-test.true c.find-to.ensures (end-at c.before.before.before.before.before.before.before.before.before).high (sym c.value.ensures ∙ ap says_value c.enum_told.given.1)))
+    (bad c.loop-i.invariant.1 c.loop-i-test.true c.find-to.ensures (end-at c.before.before.before.before.before.before.before.before.before).high (sym c.value.ensures ∙ ap says_value c.in_default.is)))
 
 -- a line that is of another form, or doesn't fit
-nothing-given : (c : After-fault_of-fault invariant-loop decreases-loop invariant-lines decreases-lines) (g : GivenLine) → c.judge-judged.result ≡ Judged.Gives g → ⊥
-nothing-given c g e = not_first c.in_default-judged.keys2 (ap (tag_of judged-type.the_type) e)
+nothing-given : (c : After-fault_of-fault) (g : GivenLine) → c.judge-judged.result ≡ Judged.Gives g → ⊥
+nothing-given c g e = not_first c.in_default-judged.in_default-judged-own.keys2 (ap (tag_of judged-type.the_type) e)
 
-bad-line : (c : After-fault_of-fault invariant-loop decreases-loop invariant-lines decreases-lines) → text_read (text c.before.before.before.before.before.before.before.before.before.before) (lent c.before.before.before.before.before.before.before.before.before.before) ≡ faulty (fault_number c.fault-of.result) c.lines.line
+bad-line : (c : After-fault_of-fault) → text_read (text c.before.before.before.before.before.before.before.before.before.before) (lent c.before.before.before.before.before.before.before.before.before.before) ≡ faulty (fault_number c.fault_of-fault.result) c.lines.line
 bad-line c =
-    stopped c.lines.invariant.1 (end-at c.before.before.before.before.before.before.before.before) (ended c.before.before.before.before.before.before.before) (fault_number c.fault-of.result)
-    (answer c.before.before ∙ by_fault c.judge-judged.result (nothing-given c) ∙ ap (λ (f : Fault). stops (fault_number f)) (sym c.fault-of.ensures))
+    stopped c.lines.invariant.1 (end-at c.before.before.before.before.before.before.before.before) (ended c.before.before.before.before.before.before.before) (fault_number c.fault_of-fault.result)
+    (answer c.before.before ∙ by_fault c.judge-judged.result (nothing-given c) ∙ ap (λ (f : Fault). stops (fault_number f)) (sym c.fault_of-fault.ensures))
 
 -- what a line gives
-given : (c : In-Gives invariant-loop decreases-loop invariant-lines decreases-lines) → line_read (progress c.before.before.before.before.before.before.before.before.before.before.before) (line_at c.before.before.before.before.before.before.before.before.before) ≡ gives (given_of c.judged-1.given.0.0)
-given c = answer c.before.before.before ∙ ap says_judged c.judged-1.given.1
+given : (c : In-Gives) → line_read (progress c.before.before.before.before.before.before.before.before.before.before.before) (line_at c.before.before.before.before.before.before.before.before.before) ≡ gives (given_of c.in-Gives.g)
+given c = answer c.before.before.before ∙ ap says_judged c.in-Gives.is
 
 -- the four ways out of the walk
 left : (c : tie.Left-lines invariant-loop decreases-loop invariant-lines decreases-lines) → Left (text c.before) (lent c.before) c.lines.p c.lines-test.fault c.lines.line c.lines.halfwords c.lines.staged
@@ -98,10 +98,10 @@ left c =
     (λ w. at_malformed c.lines.invariant.1 (limit c.before) w.3 (unfinished c.lines.invariant.1 (w.1.ensures.inside (omega (arith, w.0.taken))) w.0.taken w.2.taken))
     (⊎_elim
     (λ w.
-    let d : In_default invariant-loop decreases-loop invariant-lines decreases-lines = record { before = record { before = record { before = record { before = record { before = record { before = record { before = record { before = record { before = record { before = record { before = c.before; lines-test = w.0 }; next-line = w.1 }; if1 = w.2 }; values-wanted = w.3 }; loop = w.4 }; loop-test = w.5 }; find = w.6 }; value-arg = w.7 }; value = w.8 }; match = w.9 }; enum_told = w.10 } in
+    let d : In_default = record { before = record { before = record { before = record { before = record { before = record { before = record { before = record { before = record { before = record { before = record { before = c.before; lines-test = w.0 }; next-line = w.1 }; if1 = w.2 }; values-wanted = w.3 }; loop = w.4 }; loop-test = w.5 }; find = w.6 }; value-arg = w.7 }; value = w.8 }; match = w.9 }; enum_told = w.10 } in
     at_malformed c.lines.invariant.1 (limit c.before) w.11 (bad-value d))
     (λ w.
-    let d : After-fault_of-fault invariant-loop decreases-loop invariant-lines decreases-lines = record { before = record { before = record { before = record { before = record { before = record { before = record { before = record { before = record { before = record { before = c.before; lines-test = w.0 }; next-line = w.1 }; if1 = w.2 }; values-wanted = w.3 }; loop = w.4 }; loop-test = w.5 }; judge-arg = w.6 }; judge = w.7 }; match2 = w.8 }; fault-of = w.9 } in
+    let d : After-fault_of-fault = record { before = record { before = record { before = record { before = record { before = record { before = record { before = record { before = record { before = record { before = c.before; lines-test = w.0 }; next-line = w.1 }; if1 = w.2 }; values-wanted = w.3 }; loop = w.4 }; loop-test = w.5 }; judge-arg = w.6 }; judge = w.7 }; match2 = w.8 }; fault-of = w.9 } in
     at_fault c.lines.invariant.1 (limit c.before) c.lines-test.fault (λ z. some_fault w.7.result (nothing-given d) (sym w.9.ensures ∙ sym w.10 ∙ z)) (rw w.10 (bad-line d)))))
     c.lines-test.branch
 

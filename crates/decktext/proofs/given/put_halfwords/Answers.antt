@@ -16,34 +16,34 @@ use Rattle.decktext.proofs.given.put_halfwords.Goals as goal
 use Rattle.decktext.proofs.given.put_halfwords.Goals.{At-loop-k, In-loop-k}
 
 -- at the head of the loop: what is staged, the orders before it, and the buffers that are lent
-abbrev staged : At-loop-k invariant-loop decreases-loop → List ℕ
-staged c = c.before.before.before.args.staged.now
+abbrev staged : At-loop-k → List ℕ
+staged c = c.args.staged.now
 
-abbrev orders : At-loop-k invariant-loop decreases-loop → ℕ
-orders c = c.before.before.before.args.n
+abbrev orders : At-loop-k → ℕ
+orders c = c.args.n
 
-abbrev memory : At-loop-k invariant-loop decreases-loop → List ℕ
-memory c = c.before.before.before.args.memory.now
+abbrev memory : At-loop-k → List ℕ
+memory c = c.args.memory.now
 
-abbrev protect : At-loop-k invariant-loop decreases-loop → List ℕ
-protect c = c.before.before.before.args.protect.now
+abbrev protect : At-loop-k → List ℕ
+protect c = c.args.protect.now
 
 -- the buffers keep their lengths
-memory_length : (c : At-loop-k invariant-loop decreases-loop) → length c.loop.memory ≡ length (memory c)
-memory_length c = ap length c.loop.invariant.1 ∙ words_length (staged c) (orders c) c.loop.k (memory c)
+memory_length : (c : At-loop-k) → length c.loop-k.memory ≡ length (memory c)
+memory_length c = ap length c.loop-k.invariant.1 ∙ words_length (staged c) (orders c) c.loop-k.k (memory c)
 
-protect-length : (c : At-loop-k invariant-loop decreases-loop) → length c.loop.protect ≡ length (protect c)
-protect-length c = ap (λ (p : ProtectList). length p.bytes) c.loop.invariant.2 ∙ marks_length (staged c) (orders c) c.loop.k (bitwise (protect c))
+protect-length : (c : At-loop-k) → length c.loop-k.protect ≡ length (protect c)
+protect-length c = ap (λ (p : ProtectList). length p.bytes) c.loop-k.invariant.2 ∙ marks_length (staged c) (orders c) c.loop-k.k (bitwise (protect c))
 
 -- the halfword that is put: it lands in memory, and its protect digit is the mark that is made
-abbrev halfword : At-loop-k invariant-loop decreases-loop → Halfword
-halfword c = halfword_at (staged c) (place_after (orders c) c.loop.k)
+abbrev halfword : At-loop-k → Halfword
+halfword c = halfword_at (staged c) (place_after (orders c) c.loop-k.k)
 
-lands : (c : In-loop-k invariant-loop decreases-loop) → (halfword c.before).at < length (memory c.before)
-lands c = c.before.before.before.before.requires.word c.loop-k.k c.loop-test.true
+lands : (c : In-loop-k) → (halfword c.before).at < length (memory c.before)
+lands c = c.requires.word c.loop-k.k c.loop-k-test.true
 
-digit : (c : In-loop-k invariant-loop decreases-loop) → cond (eqb (halfword c.before).protect 1) 1 0 ≡ (halfword c.before).protect
-digit c = digit_mark (halfword c.before).protect (c.before.before.before.before.requires.digit c.loop-k.k c.loop-test.true)
+digit : (c : In-loop-k) → cond (eqb (halfword c.before).protect 1) 1 0 ≡ (halfword c.before).protect
+digit c = digit_mark (halfword c.before).protect (c.requires.digit c.loop-k.k c.loop-k-test.true)
 
 pub loop-k-init : goal.loop-k-init
 unfolding with_each
