@@ -10,11 +10,8 @@ use Rattle.decktext.specs.Read.{Buffers, Wanted, Progress, buffers, faulty, line
 use Rattle.decktext.specs.Value.{says_value}
 use Rattle.hexfloat.specs.Answer.{gives, stops}
 use mathlib.Core.Logic.{⊎_elim}
-use denote.Enum.Declared.{tag_of}
 use Rattle.decktext.specs.declared.given.Given.{Given as GivenLine}
 use Rattle.decktext.specs.declared.line.Judged.{Judged}
-use Rattle.decktext.specs.contracts.line.Judged as judged-type
-use Rattle.decktext.proofs.Tags.{not_first}
 use Rattle.decktext.proofs.Lines.{part, length_part}
 use lib.ListN.{length}
 use Prim.Native.Nat.{ℕ, ◌+◌, ◌-◌, ◌≤◌, ◌<◌}
