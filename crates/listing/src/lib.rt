@@ -1,4 +1,6 @@
 // From deck text to the bytes that `desk` writes.
+#![tactic(auto)]
+
 mod listing;
 mod text;
 

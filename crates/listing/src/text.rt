@@ -4,7 +4,7 @@ ghost use Rattle.listing.specs.Digits.{decimal, digit, hexadecimal};
 ghost use Rattle.listing.specs.Text.{text_of, Appended};
 
 // No listing is longer than 307 bytes, whatever the numbers in it.
-#[derive(Drop)]
+#[derive(Clone, Copy)]
 pub struct Listing {
     pub bytes: [u8; 320],
     pub length: usize,
