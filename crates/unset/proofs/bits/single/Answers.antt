@@ -5,14 +5,7 @@ use native.Mathlib.Nat.{one-mul}
 use native.Mathlib.Omega.{arith}
 use mathlib.Core.Path.{◌∙◌}
 use borrow.Author.Rules.{rules}
-use Rattle.unset.proofs.bits.single.Statement.{statement}
-use Rattle.unset.proofs.bits.single.Tie as tie
+use Rattle.unset.proofs.bits.single.Goals as goal
 
-shl-result : tie.Need-overflow-shl-result
-shl-result c = search rules
-
-returns : tie.Need-returns
+pub returns : goal.returns
 returns c = shl_exact 1 c.args.k 32 (omega arith) (omega arith) ∙ one-mul _
-
-pub single_spec : {M : Type 1} → statement M
-single_spec = tie.close (tie.spec shl-result returns)
