@@ -19,6 +19,7 @@ NAME = re.compile(r"[^\s(){}\[\].;,:\"@⌜⌝`]+")
 DEFINED = re.compile(r"^(?:abbrev |unfoldable )?(?:pub )?(?:abbrev )?(data |record |ruleset )?([^\s:(){}.]+)\s*(?:\(.*\)|\{.*\})*\s*:(?:\s|$)")
 LOCAL = re.compile(r"^\s+(?:abbrev |unfoldable )?(?:pub )?(?:abbrev )?([^\s:(){}.]+)\s*(?:\(.*\)|\{.*\})*\s*:(?:\s|$)")
 FIELD = re.compile(r"^\s+pub ([^\s:(){}.]+) :\s")
+DOTTED = re.compile(r"^\s+pub ([^\s:(){}.]+) :(?:\s|$)")
 WORDS = re.compile(r"^(?:[A-Za-z][A-Za-z0-9_]*)(?:-[A-Za-z0-9_]+)*'?$")
 CAMEL = re.compile(r"^[a-z][a-z0-9_]*[A-Z]")
 
@@ -42,7 +43,7 @@ def is_goal(text, line):
 
 def collect():
     """The names defined at the top of files, those of specs/ among them, local ones and fields."""
-    top, specs, fields = set(), set(LIBRARY), set()
+    top, specs, fields, dotted = set(), set(LIBRARY), set(), set()
     for path in files(".antt"):
         with open(path, encoding="utf-8") as f:
             lines = f.read().split("\n")
@@ -58,7 +59,10 @@ def collect():
             m = FIELD.match(line)
             if m:
                 fields.add(m.group(1))
-    return top, specs, fields
+            m = DOTTED.match(line)
+            if m:
+                dotted.add(m.group(1))
+    return top, specs, fields, dotted
 
 
 def respelled(name, specs, is_field):
@@ -76,13 +80,13 @@ def respelled(name, specs, is_field):
 
 
 def main(dry):
-    top, specs, fields = collect()
+    top, specs, fields, dotted = collect()
     names, after_dot = {}, {}
     for name in sorted(top | fields):
         new = respelled(name, specs, name in fields)
         if new != name:
             names[name] = new
-            if name in fields:
+            if name in dotted:
                 after_dot[name] = new
     texts = {}
     for path in files(".antt", ".rt", ".edit"):
@@ -101,6 +105,11 @@ def main(dry):
                 continue
             print(f"look: {old} -> {names[old]} is there already: {names[old]}_lem")
             names[old] += "_lem"
+    # lemmas of a module that read as fields here
+    for old in {"registers-after", "stops-alike"} & set(names):
+        names[old] += "_lem"
+        fields.discard(old)
+        after_dot.pop(old, None)
     for old, new in names.items():
         back[new].add(old)
     for new, olds in sorted(back.items()):

@@ -85,6 +85,9 @@ decimal_number [] l h = absurd (omega arith)
 decimal_number (b ∷ []) l h = absurd (omega arith)
 decimal_number (b ∷ c ∷ v) l h = decimal-plain (b ∷ c ∷ v) (rw (ne_eqb b 48 (λ e. h (ap marked_digit e))))
 
+-- what a decimal is, by its length and its first digit
+pub ruleset decimal_cases = (decimal_none, decimal_long, decimal-single, decimal_leading, decimal_number)
+
 -- the number of a protect digit
 protect_by : (b : ℕ) (p q : Bool) → eqb b 48 ≡ p → eqb b 49 ≡ q → number_in 2 (b ∷ []) ≡ protect_of (b ∷ [])
 unfolding all number_from number_in protect_of same

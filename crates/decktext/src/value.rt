@@ -14,6 +14,7 @@ pub enum Value {
 
 // No leading zero and at most 65,535, so at most five digits.
 // One digit is a number, 0 too: no branch on it, which the processor would often guess wrongly.
+#[tactic(auto, using(crate::proofs::Decimals::decimal_cases))]
 pub fn decimal(v: &[u8], digits: &[u8]) -> Value
     requires { DigitTable digits.now }
     ensures { says_value result ≡ decimal_of v.now }

@@ -8,6 +8,7 @@ use crate::word::{Parts, Width, Words};
 // With the 14 digits of a long operand these make 64 bits.
 const GUARD_DIGITS: u32 = 2;
 
+#[tactic(auto, unfolding(crate::specs::Compare::compared_words))]
 pub fn compare(width: Width, a: Words, b: Words) -> u8
     ensures { result ≡ compared_words width a b }
 {

@@ -24,6 +24,7 @@ pub fn deck_sized(deck: usize) -> bool
 }
 
 // Check 2.
+#[tactic(auto, unfolding(crate::specs::Check::buffers_sized, protection::specs::Form::covers))]
 pub fn buffers_sized(protect: &[u8], memory: usize, journal: usize) -> bool
     ensures { result ≡ buffers_sized (bitwise protect.now) memory journal }
 {

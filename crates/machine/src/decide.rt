@@ -37,6 +37,7 @@ pub fn held(
 }
 
 // Checks 20 and 1 to 3, of a call that is given a seat: `Taken` where all pass.
+#[tactic(auto, unfolding(crate::specs::Decide::entry_stop))]
 pub fn entry(
     seat: u32,
     s: Status,

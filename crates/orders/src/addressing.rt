@@ -6,6 +6,7 @@ use crate::general::general_at;
 use crate::order::Order;
 
 // What r2 adds to the address: the lower halfword of G r2. Register 0 cannot hold an index.
+#[tactic(auto, unfolding(crate::specs::Address::index_of))]
 fn index(r: u16, general: &[u32; 16], selector: u32) -> u32
     ensures { result ≡ index_of r general.now selector }
 {

@@ -8,7 +8,7 @@ use unset::{Found, Register};
 // 0 or the number of the refusal; 1 if there is such a read, else 0; then its order, the register's kind (0 a float,
 // 1 a general one of set 0, 2 of set 1) and its number, which are 0 where there is none.
 #[repr(C)]
-#[derive(Drop)]
+#[derive(Clone, Copy)]
 pub struct Finding {
     pub number: u32,
     pub found: u32,

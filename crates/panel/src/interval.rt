@@ -11,7 +11,7 @@ use stretch::Found;
 
 // 0 or the number of the refusal; then the first order, the last and the number that it stops by, 0 on a refusal.
 #[repr(C)]
-#[derive(Drop)]
+#[derive(Clone, Copy)]
 pub struct Interval {
     pub number: u32,
     pub first: u32,

@@ -1,6 +1,8 @@
 // The bench panel's functions, for C. Those over a lent state copy out what the function on values
 // takes, and store what comes back. None has a `requires`. What a call answers comes back
 // by value, so that a refusal writes nothing at all, free words of the journal after a 21 aside.
+#![tactic(auto)]
+
 mod finding;
 mod interval;
 mod value;

@@ -15,7 +15,7 @@ use cause::{Cause, Cell, Named};
 use machine::{Registers, State, Status, Whose};
 
 // What a step leaves of its seat, and the number of how it ended.
-#[derive(Drop)]
+#[derive(Clone, Copy)]
 pub struct Stepped {
     pub registers: Registers,
     pub used: u32,
@@ -24,14 +24,14 @@ pub struct Stepped {
 
 // What C receives of a call with two answers: 0 or the number of its refusal, and a count, a line or a seat.
 #[repr(C)]
-#[derive(Drop)]
+#[derive(Clone, Copy)]
 pub struct Answer {
     pub number: u32,
     pub value: u32,
 }
 
 // The state after a run or a back step, and what C receives of it.
-#[derive(Drop)]
+#[derive(Clone, Copy)]
 pub struct Answered {
     pub state: State,
     pub answer: Answer,
@@ -110,7 +110,7 @@ pub fn back_by_value(s: State, memory: &mut [u16], protect: &[u8], journal: &mut
 
 // What C receives of a cause: its number, and as many values as count says; the others are 0.
 #[repr(C)]
-#[derive(Drop)]
+#[derive(Clone, Copy)]
 pub struct Explanation {
     pub number: u32,
     pub count: u32,
@@ -183,7 +183,7 @@ pub fn why_by_value(
 // What C receives of a piece of the chart: 0 or the number of the refusal, how many orders there are, and how
 // many were written.
 #[repr(C)]
-#[derive(Drop)]
+#[derive(Clone, Copy)]
 pub struct Piece {
     pub number: u32,
     pub total: u32,

@@ -60,9 +60,9 @@ module _ (d : List ℕ) (p : ProtectList) (k : ℕ) (x : Machine) (entered : ent
         stops = ap (λ (r : Outcome Machine). r.stop) same ∙ stopped;
       }
 
-  pub stops_alike : StopsFrom d p k x last stop f → stops_alike d p k x last stop f ≡ true
+  pub stops_alike_lem : StopsFrom d p k x last stop f → stops_alike d p k x last stop f ≡ true
   unfolding stops_alike
-  stops_alike h = cases (eqb tried.stop 0) refl
+  stops_alike_lem h = cases (eqb tried.stop 0) refl
     where
       cases : (b : Bool) → eqb tried.stop 0 ≡ b → (eqb tried.taken (last - f) && eqb tried.stop stop) ≡ true
       cases true e =

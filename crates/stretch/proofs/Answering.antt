@@ -36,3 +36,6 @@ module _ (d : List ℕ) (p : ProtectList) (k : ℕ) (x : Machine) where
 
   pub asked_found : entry_of d p k x ≡ 0 → {y : Machine} {a : Answer Stretch} → Answers d p k x a → TakenBack x y → Asked d p k x y a
   asked_found entered answers left = record { answers = answers; left = left; untouched = λ z. absurd (z entered) }
+
+-- what the search cites for the promise
+pub ruleset answering = (asked_refused, asked_jump, asked_found, passed, says_jump, says_none)

@@ -24,7 +24,7 @@ use Rattle.stretch.specs.Restore.{restored}
 use Rattle.stretch.specs.Search.{CameTo, stops_alike, Tried, Latest}
 use Rattle.stretch.specs.Stretch.{SixToEleven, Shortest}
 use Rattle.stretch.specs.Trial.{pointed, start_at, StopsFrom}
-use Rattle.stretch.proofs.Alike.{alike_journal, alike_stops, stops_alike}
+use Rattle.stretch.proofs.Alike.{alike_journal, alike_stops, stops_alike_lem}
 use Rattle.stretch.proofs.Consecutive.{run_onward, run_few}
 use Rattle.stretch.proofs.Restored.{run_restored}
 use Rattle.stretch.proofs.Starts.{pointed_used, pointed-entry, whole_run}
@@ -60,7 +60,7 @@ came_to d p k limit s m j {after} {m1} {m2} {j1} {count} {stop} typed ran-as bac
             back_as
             ∙ ap (λ (o : Outcome Machine). restored o.after.journal s.used o.taken o.after.memory) ran-as
             ∙ run_restored d p k limit (machine s m j) typed;
-        journal = subst (λ (l : List ℕ). KeptBelow (s.used * 4) j l) (sym journal) (theorems.run-journal d p k limit (machine s m j));
+        journal = subst (λ (l : List ℕ). KeptBelow (s.used * 4) j l) (sym journal) (theorems.run_journal d p k limit (machine s m j));
       };
     }
 
@@ -176,7 +176,7 @@ module _ (d : List ℕ) (p : ProtectList) (k : ℕ) (x y : Machine) (entered : e
   later : (f : ℕ) → first < f → StopsFrom d p k x last stop f → ⊥
   later f above h =
       let ends : f ≤ last = omega (arith, h.takes) in
-      let differ : true ≡ false = sym (stops_alike d p k x entered none last stop some few f h.begins ends h) ∙ l.none f above ends in
+      let differ : true ≡ false = sym (stops_alike_lem d p k x entered none last stop some few f h.begins ends h) ∙ l.none f above ends in
       let z : ◌≡◌ {A = ℕ} 0 1 = cc in
       omega arith
 

@@ -80,6 +80,7 @@ fn search(
 
 // The shortest stretch of consecutive orders, from the pointer on to where the run stops, that still stops there by the same
 // number. State and memory are as they were, and so is the journal up to the used count.
+#[tactic(auto, using(crate::proofs::Answering::answering))]
 pub fn shortest(
     s: State,
     seat: u32,

@@ -29,7 +29,7 @@ use Rattle.machine.specs.Step.{Outcome, outcome, onward, next_order, verdict_of,
 use Rattle.machine.specs.Uses.{Register, contents, written_by}
 use Rattle.machine.proofs.Decided.{decided_taken}
 use Rattle.conditions.specs.Theorems.{TypedRegisters, NextReads, NextWrites, AlikeRead, AlikeAfter}
-use Rattle.conditions.proofs.Decisions.{registers_after}
+use Rattle.conditions.proofs.Decisions.{registers_after_lem}
 use Rattle.conditions.proofs.Records.{written-length}
 use Rattle.conditions.proofs.Unread.{unread_free}
 use Rattle.conditions.proofs.Written.{unwritten_kept}
@@ -190,8 +190,8 @@ module _ (d : List ℕ) (p : ProtectList) (seat : ℕ) (x y : Machine) (sized : 
   alike_on u v e f k s t =
       let q = step_alike u v (gives e) (gives f) k s t in
       record {
-        typed = subst TypedRegisters (sym (registers_after seat e u)) (typed_after e (registers_of seat u.state) k.typed);
-        typed_too = subst TypedRegisters (sym (registers_after seat f v)) (typed_after f (registers_of seat v.state) k.typed_too);
+        typed = subst TypedRegisters (sym (registers_after_lem seat e u)) (typed_after e (registers_of seat u.state) k.typed);
+        typed_too = subst TypedRegisters (sym (registers_after_lem seat f v)) (typed_after f (registers_of seat v.state) k.typed_too);
         status = q.status;
         beside = q.beside;
         used = q.used;

@@ -16,7 +16,7 @@ use Rattle.machine.specs.Machine.{Machine, committed}
 use Rattle.machine.specs.Seats.{registers_of}
 use Rattle.machine.specs.Step.{Outcome, outcome, onward, next_order, verdict_of, stepped}
 use Rattle.machine.proofs.Decided.{decided_taken}
-use Rattle.conditions.proofs.Decisions.{registers_after}
+use Rattle.conditions.proofs.Decisions.{registers_after_lem}
 use Rattle.conditions.proofs.Leaves.{stop_number}
 use Rattle.conditions.proofs.Onward.{Led, taken_led, decided_inside}
 use Rattle.unset.specs.declared.path.Point.{Point}
@@ -56,7 +56,7 @@ module _ (d : List ℕ) (p : ProtectList) (seat : ℕ) (x : Machine) where
         here = record { operation = op; inside = decided_inside d p seat x.state x.memory (length x.journal) e h; legal = t.legal };
         onward =
             rw (may_jump_lem op.verb (next_order d seat x))
-            (subst (λ (r : Registers). Memᴰ (point r.status.pointer r.status.selector) (ways op.verb (next_order d seat x) g)) (sym (registers_after seat e x))
+            (subst (λ (r : Registers). Memᴰ (point r.status.pointer r.status.selector) (ways op.verb (next_order d seat x) g)) (sym (registers_after_lem seat e x))
             (led_way op.verb (next_order d seat x) g e (taken_led d p seat x.state x.memory (length x.journal) e t)));
       }
 

@@ -4,14 +4,14 @@ ghost use Rattle.unset.specs.Answer.{says_register};
 ghost use Rattle.unset.specs.Bits.{register_of};
 
 // A register with its number in its kind.
-#[derive(Drop)]
+#[derive(Clone, Copy)]
 pub enum Register {
     Float(u32),
     Set0(u32),
     Set1(u32),
 }
 
-#[derive(Drop)]
+#[derive(Clone, Copy)]
 pub enum Found {
     // The deck's cells are no multiple of 4, or too many: number 1.
     DeckSize,

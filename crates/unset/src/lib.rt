@@ -4,6 +4,8 @@
 // A search to a fixed point: for each order and selector, the registers that reach it unwritten are the
 // bits of a word. A place is taken up again only when its word has gained a bit, so the work is bounded by
 // places times registers. What is public has no `requires`.
+#![tactic(auto)]
+
 mod answer;
 mod bits;
 mod finding;

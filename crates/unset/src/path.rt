@@ -6,7 +6,7 @@ ghost use Rattle.unset.specs.Search.{index_of};
 use orders::{Order, Verb};
 
 // An order, and the selector with which it is reached.
-#[derive(Drop)]
+#[derive(Clone, Copy)]
 pub struct Point {
     pub order: u32,
     pub selector: u32,

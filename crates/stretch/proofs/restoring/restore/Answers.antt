@@ -1,0 +1,19 @@
+-- `stretch::restoring::restore` meets its contract. The loop's invariant: the records that are left lead from here to where all of them lead from the
+-- start. Assumes nothing.
+use Prim.Native.Nat.{◌≤◌}
+use mathlib.Core.Path.{◌≡◌, refl, sym, ap, ◌∙◌}
+use native.Mathlib.Omega.{arith}
+use lib.ListN.{length}
+use borrow.Author.Rules.{rules}
+use Rattle.stretch.specs.Restore.{restored}
+use Rattle.stretch.proofs.Restored.{restored_on, restored_none}
+use Rattle.stretch.proofs.restoring.restore.Goals as goal
+
+pub loop-left-init : goal.loop-left-init
+loop-left-init c = (refl, omega arith, refl)
+
+pub loop-left-preserved : goal.loop-left-preserved
+loop-left-preserved c = (c.loop-left.invariant.0 ∙ restored_on _ _ _ _ c.loop-left-test.true ∙ ap (restored _ _ _) (sym c.put_record.ensures), search rules, search rules)
+
+pub returns : goal.returns
+returns c = sym (c.loop-left.invariant.0 ∙ restored_none _ _ _ _ (omega arith))

@@ -1,0 +1,52 @@
+-- `unset::finding::lowest` meets its contract. The loop's invariant: no order passed reads a register unset. The measure is what is left of the deck.
+-- Assumes nothing.
+use Prim.Native.Nat.{ℕ, ◌-◌, ◌/◌, ◌<◌, ◌≤◌}
+use lib.ListN.{length}
+use native.Mathlib.Omega.{arith}
+use borrow.Author.Count.{below_more}
+use borrow.Author.Rules.{rules}
+use Rattle.machine.specs.Uses.{Register}
+use Rattle.unset.specs.Answer.{ReadUnset, Answers}
+use Rattle.unset.proofs.Lowest.{unset_none, unset_small, unset_lowest}
+use Rattle.unset.proofs.Sized.{few_cells}
+use Rattle.unset.proofs.finding.lowest.Goals as goal
+
+pub overflow_cast-orders : goal.overflow_cast-orders
+overflow_cast-orders c = record { fits = omega (arith, few_cells _ c.requires.checked.sized) }
+
+pub loop-p-init : goal.loop-p-init
+loop-p-init c = (omega arith, λ q l. absurd (omega arith))
+
+pub unset_bits-bits-requires : goal.unset_bits-bits-requires
+unset_bits-bits-requires c = (c.requires, c.loop-p-test.true)
+
+pub lowest_bit-requires : goal.lowest_bit-requires
+lowest_bit-requires c =
+    let start = c in
+    (omega (arith, c.if-bits-ne0.true), unset_small _ _ _ _ start.requires c.loop-p-test.true c.unset_bits-bits.ensures)
+
+pub register_of-requires : goal.register_of-requires
+register_of-requires c = c.lowest_bit.ensures.small
+
+pub returns-then-bits-ne0 : goal.returns-then-bits-ne0
+returns-then-bits-ne0 c =
+    let at = c in
+    let found = at.requires in
+    let inside = c.loop-p-test.true in
+    let bits = c.unset_bits-bits.ensures in
+    let low = unset_lowest _ _ _ _ found inside bits _ c.lowest_bit.ensures at.loop-p.invariant.1 in
+    rw c.register_of.ensures (Answers.lowest found.checked low)
+
+pub overflow_add-p : goal.overflow_add-p
+overflow_add-p c = record { fits = omega (arith, few_cells _ c.requires.checked.sized) }
+
+pub loop-p-preserved : goal.loop-p-preserved
+loop-p-preserved c =
+    let at = c in
+    let none = unset_none _ _ _ _ at.requires c.loop-p-test.true c.unset_bits-bits.ensures c.if-bits-ne0.false in
+    (omega arith, below_more _ _ at.loop-p.invariant.1 none)
+
+pub returns : goal.returns
+returns c =
+    let found = c.requires in
+    Answers.none found.checked (λ q t r. c.loop-p.invariant.1 q (omega (arith, r.reads.here.inside)) t r)
