@@ -9,13 +9,13 @@ mod text;
 
 use case::Read;
 use std::io::Print;
-use stream::read_full;
+use stream::read_all;
 
 // Reads one case, writes its answer, and says whether to go on. A last line that is too short, or
-// any line of another form, ends the run with a message.
+// any line of another form, ends the run with a message; a read that fails is the input's end.
 fn one_case(rt: HostRuntime) -> bool {
     let mut line = [0u8; 38];
-    let n = read_full(&mut rt.stdin(), &mut line);
+    let n = read_all(&mut rt.stdin(), &mut line).count;
     if n == 0 {
         return false;
     }

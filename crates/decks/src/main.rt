@@ -7,7 +7,7 @@ ghost use Rattle.std.specs.Prelude.{◌≤◌, length};
 
 use listing::Listing;
 use std::io::Print;
-use stream::read_full;
+use stream::read_all;
 
 // The number of five digits and a line feed, or 100,000 for any other line.
 fn length_of(line: &[u8; 6]) -> usize
@@ -32,7 +32,7 @@ fn one_text(rt: HostRuntime, n: usize, space: &mut [u8]) -> bool
     requires { n ≤ length space.old }
 {
     let text = &mut space[..n];
-    let got = read_full(&mut rt.stdin(), text);
+    let got = read_all(&mut rt.stdin(), text).count;
     if got < n {
         let _ = rt.stderr().write_all(b"decks: a text is too short\n");
         return false;
@@ -48,10 +48,10 @@ fn write(rt: HostRuntime, out: Listing) -> bool
     rt.stdout().write_all(&bytes[..n]).is_ok()
 }
 
-// One case, and whether to go on.
+// One case, and whether to go on. A read that fails is the input's end.
 fn one_case(rt: HostRuntime) -> bool {
     let mut line = [0u8; 6];
-    let got = read_full(&mut rt.stdin(), &mut line);
+    let got = read_all(&mut rt.stdin(), &mut line).count;
     if got == 0 {
         return false;
     }

@@ -42,11 +42,3 @@ pub fn read_all<R: Read>(input: &mut R, buf: &mut [u8]) -> Input
         failed: false,
     }
 }
-
-// The count alone, where a read that fails ends the input.
-pub fn read_full<R: Read>(input: &mut R, buf: &mut [u8]) -> usize
-    ensures bound { result ≤ length buf.new }
-    ensures bytes { Consumes (R.remaining input.old) (R.remaining input.new) (take result buf.new) }
-{
-    read_all(input, buf).count
-}

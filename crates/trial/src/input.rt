@@ -1,6 +1,6 @@
 // Input by lines and numbers.
 use std::io::Print;
-use stream::read_full;
+use stream::read_all;
 
 // What was read.
 #[derive(Clone, Copy)]
@@ -10,9 +10,9 @@ pub enum Input {
     Malformed,
 }
 
-// Fills the space. The input ends where nothing is left of it.
+// Fills the space. The input ends where nothing is left of it, or a read fails.
 pub fn read_bytes(rt: HostRuntime, space: &mut [u8]) -> Input {
-    let got = read_full(&mut rt.stdin(), space);
+    let got = read_all(&mut rt.stdin(), space).count;
     if got == space.len() {
         return Input::Whole;
     }
