@@ -1,4 +1,4 @@
-//! Links the proved library that `rt staticlib panel` wrote.
+//! Links the proved library that `panel/library` builds.
 fn main() {
     let root = std::env::var("CARGO_MANIFEST_DIR").expect("cargo sets it");
     println!("cargo:rustc-link-search=native={root}/../target/staticlib");

@@ -1,4 +1,4 @@
-/* The AP-101S floating desk for the bench panel: link with libpanel.a (`rt staticlib panel`).
+/* The AP-101S floating desk for the bench panel: link with libpanel.a (`panel/library`).
  *
  * Every function takes any content and any lengths that its types allow, and answers 0 or one of the numbers of
  * docs/HANDBOOK.md, 'When it stops'. A refused step, back step, text or piece of the chart leaves the state and every

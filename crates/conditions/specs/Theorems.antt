@@ -1,6 +1,6 @@
 -- What is proved of the calls, in the words of conditions 1 and 3 (document 01, 'Journal and back steps'), for every deck d, protect list p in any form,
 -- machine x and list of calls. The proofs are in proofs/Theorems.antt.
-use Rattle.std.specs.Prelude.{ℕ, ◌+◌, ◌-◌, ◌*◌, ◌/◌, ◌<◌, ◌≤◌, ◌≡◌, true, length, get_or, take, drop, replicate}
+use Rattle.std.specs.Prelude.{ℕ, ◌+◌, ◌*◌, ◌/◌, ◌<◌, ◌≤◌, ◌≡◌, true, length, get_or, take, drop, replicate}
 use mathlib.Core.List.{List, [], ◌∷◌, ◌++◌, Memᴰ}
 use Rattle.hexfloat.specs.Answer.{gives}
 use Rattle.hexfloat.specs.Convert.{fixed_coded}

@@ -1,7 +1,7 @@
 // A text and a place in it, and the line at the place.
 //
-// A function over a struct that holds a reference is proved by a walk by hand, so each is thin, and
-// the work is done in `line_at`, on plain parameters. `next_line` is what the rest reads lines with.
+// The functions over the struct that holds the text are thin, and the work is done in `line_at`, on
+// plain parameters. `next_line` is what the rest reads lines with.
 ghost use Rattle.std.specs.Prelude.{◌≡◌};
 ghost use Rattle.decktext.specs.Walk.{LineFrom, line_of};
 

@@ -54,7 +54,7 @@ pub record RulesDiffer (a b : Words) : Type 0 where
   pub exact : compared 14 (long_parts a) (long_parts b) ≡ 3
   pub normalised : IsNormalised 14 (long_parts b)
 
--- Why theorem `long-compare` wants both operands to be true zero or to have a first digit that is not zero: a leading zero digit, and a zero fraction
+-- Why theorem `long_compare` wants both operands to be true zero or to have a first digit that is not zero: a leading zero digit, and a zero fraction
 -- with a characteristic.
 pub record WithoutPremise : Type 0 where
   pub leading_zero : RulesDiffer (long_words 0x42000000 0x00000001) (long_words 0x35100000 0x00000001)

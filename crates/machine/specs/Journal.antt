@@ -1,7 +1,7 @@
 -- The journal's records (document 01, 'Journal and back steps'; document 02, Jobs 8 and 12): four words a record. Word 0 is pointer + 2^16 · CC +
 -- 2^18 · mask + 2^19 · kind + 2^22 · selector + 2^23 · seat, word 1 the register or address, words 2 and 3 contents, leftmost first; unused words are 0. A
 -- general register is of the set that the record's own selector names, and every register is of the record's seat.
-use Rattle.std.specs.Prelude.{◌≡◌, ℕ, ◌+◌, ◌*◌, ◌/◌, ◌%◌, ◌^◌, ◌<◌, ◌≤◌, true, cond, List, set, ◌==◌, nat_le, nat_lt, slice_index, slice_set}
+use Rattle.std.specs.Prelude.{◌≡◌, ℕ, ◌+◌, ◌*◌, ◌/◌, ◌%◌, ◌^◌, ◌<◌, ◌≤◌, true, cond, List, ◌==◌, nat_le, nat_lt, slice_index, slice_set}
 use Rattle.hexfloat.specs.Answer.{Answer, gives, stops, mapped, provided}
 use Rattle.machine.specs.declared.change.Change.{Change}
 use Rattle.machine.specs.declared.journal.Record.{Record}

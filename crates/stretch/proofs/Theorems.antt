@@ -3,7 +3,7 @@ use Prim.Native.Nat.{ℕ, ◌<◌}
 use mathlib.Core.Path.{◌≡◌, refl, sym, ap, subst, ◌∙◌}
 use mathlib.Core.List.{List}
 use native.Mathlib.Omega.{arith}
-use Rattle.hexfloat.specs.Answer.{Answer, gives, stops}
+use Rattle.hexfloat.specs.Answer.{Answer, gives}
 use Rattle.protection.specs.Form.{ProtectList}
 use Rattle.machine.specs.Decide.{pointer_of}
 use Rattle.machine.specs.Machine.{Machine}

@@ -1,7 +1,6 @@
 -- `panel::panel_chart` meets its contract: each case of the answer has its number and counts.
 -- Assumes nothing.
 use mathlib.Core.Path.{◌≡◌, sym, ap, ◌∙◌}
-use borrow.Author.Rules.{rules}
 use Rattle.chart.specs.declared.listing.Charted.{Charted}
 use Rattle.chart.specs.Piece.{Outcome, outcome, says_charted, chart_into}
 use Rattle.panel.specs.Chart.{piece_of}

@@ -1,7 +1,6 @@
 -- `panel::panel_read` meets its contract: each case of the reading has its number and value.
 -- Assumes nothing.
 use mathlib.Core.Path.{◌≡◌, sym, ap, ◌∙◌}
-use borrow.Author.Rules.{rules}
 use Rattle.protection.specs.Bits.{bitwise}
 use Rattle.decktext.specs.declared.deck.Reading.{Reading}
 use Rattle.decktext.specs.Read.{buffers, outcome, says_reading, read_text}

@@ -1,7 +1,6 @@
 -- `cause::attempt::attempt` meets its contract: the number is that of the step.
 -- Assumes nothing.
 use mathlib.Core.Path.{ap, ◌∙◌}
-use borrow.Author.Rules.{rules}
 use Rattle.machine.specs.Machine.{Machine}
 use Rattle.machine.specs.Step.{Outcome}
 use Rattle.cause.proofs.attempt.attempt.Goals as goal

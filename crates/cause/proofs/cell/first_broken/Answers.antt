@@ -2,7 +2,6 @@
 -- Assumes nothing.
 use borrow.Author.Tests.{lt-ltb, le-ltb}
 use Rattle.cause.specs.Cell.{first_cell, breaks_row}
-use borrow.Author.Rules.{rules}
 use Rattle.cause.proofs.cell.first_broken.Goals as goal
 
 pub returns-in_default : goal.returns-in_default

@@ -4,7 +4,6 @@ use Prim.Native.Nat.{◌/◌}
 use mathlib.Core.Path.{sym, ap, ◌∙◌}
 use native.Mathlib.Omega.{arith}
 use borrow.Author.Tests.{lt-ltb, le-ltb}
-use borrow.Author.Rules.{rules}
 use Rattle.orders.specs.Order.{says_legality}
 use Rattle.machine.specs.Decide.{judged}
 use Rattle.cause.specs.Cause.{cause_number, named_for}

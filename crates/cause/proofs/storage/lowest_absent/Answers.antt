@@ -2,7 +2,6 @@
 -- Assumes nothing.
 use mathlib.Core.Path.{sym}
 use native.Mathlib.Omega.{arith}
-use borrow.Author.Rules.{rules}
 use Rattle.cause.proofs.Lowest.{absent_here, absent_end, absent_none}
 use Rattle.cause.proofs.storage.lowest_absent.Goals as goal
 

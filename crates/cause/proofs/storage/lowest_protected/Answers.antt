@@ -1,12 +1,9 @@
 -- `cause::storage::lowest_protected` meets its contract: the invariant: the lowest is that of what is left to look at.
 -- Assumes nothing.
-use Prim.Native.Nat.{◌+◌, ◌<◌}
-use mathlib.Core.Path.{◌≡◌, refl, sym, ◌∙◌}
+use mathlib.Core.Path.{refl, sym, ◌∙◌}
 use native.Mathlib.Omega.{arith}
-use borrow.Author.Rules.{rules}
 use Rattle.protection.specs.Form.{is_protected}
 use Rattle.protection.specs.Bits.{bitwise}
-use Rattle.cause.specs.Storage.{lowest}
 use Rattle.cause.proofs.Lowest.{lowest_here, lowest_on, lowest_none}
 use Rattle.cause.proofs.storage.lowest_protected.Goals as goal
 

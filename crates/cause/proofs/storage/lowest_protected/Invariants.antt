@@ -1,11 +1,8 @@
 use Prim.Native.Nat.{◌+◌, ◌<◌}
-use mathlib.Core.Path.{◌≡◌, refl, sym, ◌∙◌}
-use native.Mathlib.Omega.{arith}
-use borrow.Author.Rules.{rules}
+use mathlib.Core.Path.{◌≡◌}
 use Rattle.protection.specs.Form.{is_protected}
 use Rattle.protection.specs.Bits.{bitwise}
 use Rattle.cause.specs.Storage.{lowest}
-use Rattle.cause.proofs.Lowest.{lowest_here, lowest_on, lowest_none}
 use Rattle.cause.proofs.storage.lowest_protected.Given as goal
 
 abbrev pub invariant-loop-left : goal.invariant-loop-left

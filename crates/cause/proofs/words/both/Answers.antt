@@ -1,6 +1,5 @@
 -- `cause::words::both` meets its contract: each width computes its case.
 -- Assumes nothing.
-use borrow.Author.Rules.{rules}
 use Rattle.cause.proofs.words.both.Goals as goal
 
 pub returns-in-Short : goal.returns-in-Short

@@ -4,7 +4,6 @@ use mathlib.Core.Path.{sym, ◌∙◌}
 use native.Mathlib.Omega.{arith}
 use Rattle.cause.specs.Words.{words_named}
 use Rattle.cause.proofs.Arithmetic.{two_named}
-use borrow.Author.Rules.{rules}
 use Rattle.cause.proofs.words.words_named.Goals as goal
 
 pub returns-then-count-eq0 : goal.returns-then-count-eq0

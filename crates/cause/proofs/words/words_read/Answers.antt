@@ -1,6 +1,5 @@
 -- `cause::words::words_read` meets its contract: as many of the operands as the arithmetic reads.
 -- Assumes nothing.
-use borrow.Author.Rules.{rules}
 use Rattle.cause.specs.Words.{words_read}
 use Rattle.cause.proofs.words.words_read.Goals as goal
 

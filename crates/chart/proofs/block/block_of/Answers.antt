@@ -1,5 +1,4 @@
 -- `chart::block::block_of` meets its contract: the row of the code, or a block without orders. Assumes nothing.
-use borrow.Author.Rules.{rules}
 use Rattle.chart.specs.Block.{block_of}
 use Rattle.chart.proofs.block.block_of.Goals as goal
 

@@ -3,11 +3,9 @@ use Prim.Native.Nat.{ℕ, ◌-◌}
 use mathlib.Core.Path.{refl, ap}
 use native.Mathlib.Nat.{min-le_left, min-le_right}
 use native.Mathlib.Omega.{arith}
-use borrow.Author.Rules.{rules}
-use lib.ListN.{length}
 use Rattle.chart.specs.Block.{orders_in}
 use Rattle.chart.specs.Writing.{writing, put}
-use Rattle.chart.proofs.Left.{BlockLeft, place_small, block_on, block_end}
+use Rattle.chart.proofs.Left.{place_small, block_on, block_end}
 use Rattle.chart.proofs.block.fill_block.Goals as goal
 
 pub loop-left-init : goal.loop-left-init

@@ -1,6 +1,5 @@
 -- `chart::block::next_pair` meets its contract. Assumes nothing.
 use native.Mathlib.Omega.{arith}
-use borrow.Author.Rules.{rules}
 use Rattle.chart.proofs.Places.{next_r2, next_r1}
 use Rattle.chart.proofs.block.next_pair.Goals as goal
 

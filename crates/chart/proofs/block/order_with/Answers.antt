@@ -1,6 +1,5 @@
 -- `chart::block::order_with` meets its contract: the cells can hold the place's numbers. Assumes nothing.
 use mathlib.Core.Path.{refl}
-use borrow.Author.Rules.{rules}
 use Rattle.chart.proofs.block.order_with.Goals as goal
 
 pub returns : goal.returns

@@ -1,13 +1,11 @@
 -- `chart::listing::list` meets its contract: what is left of the chart, written from here, is the piece that is asked for. Assumes nothing.
-use Prim.Native.Nat.{◌-◌, ◌/◌, ◌≤◌}
+use Prim.Native.Nat.{◌/◌}
 use mathlib.Core.Path.{◌≡◌}
 use native.Mathlib.Omega.{arith}
-use borrow.Author.Rules.{rules}
 use borrow.Author.Tests.{ne_eqb}
 use lib.ListN.{length}
-use Rattle.chart.specs.Piece.{piece, chart_into}
-use Rattle.chart.specs.Writing.{writing, put}
-use Rattle.chart.proofs.Charting.{ChartLeft, chart-start, chart_fits, chart_on, chart-answer}
+use Rattle.chart.specs.Piece.{chart_into}
+use Rattle.chart.proofs.Charting.{chart-start, chart_fits, chart_on, chart-answer}
 use Rattle.chart.proofs.listing.list.Goals as goal
 
 pub returns-then-cells-ne0 : goal.returns-then-cells-ne0

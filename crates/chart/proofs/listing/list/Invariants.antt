@@ -1,12 +1,8 @@
 use Prim.Native.Nat.{◌-◌, ◌/◌, ◌≤◌}
-use mathlib.Core.Path.{◌≡◌}
-use native.Mathlib.Omega.{arith}
-use borrow.Author.Rules.{rules}
-use borrow.Author.Tests.{ne_eqb}
 use lib.ListN.{length}
-use Rattle.chart.specs.Piece.{piece, chart_into}
+use Rattle.chart.specs.Piece.{piece}
 use Rattle.chart.specs.Writing.{writing, put}
-use Rattle.chart.proofs.Charting.{ChartLeft, chart-start, chart_fits, chart_on, chart-answer}
+use Rattle.chart.proofs.Charting.{ChartLeft}
 use Rattle.chart.proofs.listing.list.Given as goal
 
 abbrev pub invariant-loop-code : goal.invariant-loop-code

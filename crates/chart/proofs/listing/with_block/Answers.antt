@@ -1,9 +1,7 @@
 -- `chart::listing::with_block` meets its contract: the block is skipped, has no room, or has a first order to write. Assumes nothing.
-use Prim.Native.Nat.{◌-◌}
 use native.Mathlib.Omega.{arith}
 use Rattle.chart.specs.Writing.{put}
 use Rattle.chart.proofs.Shown.{size_below, shown_skipped, shown_full, shown_some}
-use borrow.Author.Rules.{rules}
 use Rattle.chart.proofs.listing.with_block.Goals as goal
 
 pub overflow_add-total : goal.overflow_add-total

@@ -1,8 +1,7 @@
 -- `chart::series::fill_series` meets its contract: what is left of the series, written from here, is the whole series from the start. Assumes nothing.
-use Prim.Native.Nat.{◌+◌, ◌-◌, ◌≤◌}
+use Prim.Native.Nat.{◌+◌, ◌-◌}
 use mathlib.Core.Path.{◌≡◌, refl, sym, subst}
 use native.Mathlib.Omega.{arith}
-use borrow.Author.Rules.{rules}
 use lib.ListN.{length}
 use Rattle.chart.specs.Block.{series}
 use Rattle.chart.specs.Chart.{order}

@@ -1,12 +1,9 @@
-use Prim.Native.Nat.{◌+◌, ◌-◌, ◌≤◌}
-use mathlib.Core.Path.{◌≡◌, refl, sym, subst}
-use native.Mathlib.Omega.{arith}
-use borrow.Author.Rules.{rules}
+use Prim.Native.Nat.{◌-◌, ◌≤◌}
 use lib.ListN.{length}
 use Rattle.chart.specs.Block.{series}
 use Rattle.chart.specs.Chart.{order}
-use Rattle.chart.specs.Writing.{Writing, writing, put}
-use Rattle.chart.proofs.Left.{SeriesLeft, series_on, series_end}
+use Rattle.chart.specs.Writing.{writing, put}
+use Rattle.chart.proofs.Left.{SeriesLeft}
 use Rattle.chart.proofs.series.fill_series.Given as goal
 
 abbrev pub invariant-loop-at : goal.invariant-loop-at

@@ -3,7 +3,6 @@ use Prim.Native.Nat.{suc, ◌+◌, ◌*◌}
 use mathlib.Core.Path.{◌≡◌}
 use native.Mathlib.Omega.{arith}
 use lib.ListN.{length-set}
-use borrow.Author.Rules.{rules}
 use Rattle.chart.proofs.series.put_order.Goals as goal
 
 pub bounds-cells-p-2 : goal.bounds-cells-p-2

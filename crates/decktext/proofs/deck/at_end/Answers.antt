@@ -1,4 +1,3 @@
-use borrow.Author.Rules.{rules}
 use Rattle.decktext.proofs.deck.at_end.Goals as goal
 
 pub returns-in-Heading : goal.returns-in-Heading

@@ -1,13 +1,8 @@
-use mathlib.Core.Path.{◌≡◌, ap}
-use Prim.Native.Nat.{ℕ, ◌≤◌}
-use lib.ListN.{length}
 use borrow.Author.Tests.{lt-ltb}
 use Rattle.protection.specs.Bits.{bitwise}
-use Rattle.decktext.specs.declared.deck.Reading.{Reading}
-use Rattle.decktext.specs.Read.{Buffers, buffers, read_text}
+use Rattle.decktext.specs.Read.{buffers, read_text}
 use Rattle.decktext.proofs.Laws.{taken_fits}
 use Rattle.decktext.proofs.Readings.{refusal, orders, landing, said_taken, taking}
-use borrow.Author.Rules.{rules}
 use Rattle.decktext.proofs.deck.read.Goals as goal
 
 pub returns-then-text-gt32768 : goal.returns-then-text-gt32768

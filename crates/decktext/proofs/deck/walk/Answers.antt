@@ -1,4 +1,4 @@
-use Rattle.decktext.proofs.Walking.{text_read, reached, Walking, start, stageable, on, stopped, unfinished, Left, at_end, at_malformed, at_fault, walked}
+use Rattle.decktext.proofs.Walking.{reached, start, stageable, on, stopped, unfinished, Left, at_end, at_malformed, at_fault, walked}
 use Rattle.decktext.proofs.Parsed.{Taking, start as begin, on as on_value, bad}
 use Rattle.decktext.proofs.Forms.{placed_at, values_at, few, judged, faulty_line, by_fault, some_fault}
 use Rattle.decktext.specs.declared.fault.Fault.{Fault}
@@ -6,18 +6,15 @@ use Rattle.decktext.specs.Fault.{fault_number}
 use Rattle.decktext.specs.Walk.{Stretch, wanted_of, given_of, says_judged, value_count, value_as}
 use mathlib.Core.List.{List}
 use Rattle.protection.specs.Bits.{bitwise}
-use Rattle.decktext.specs.Read.{Buffers, Wanted, Progress, buffers, faulty, line_read}
+use Rattle.decktext.specs.Read.{Buffers, Wanted, buffers, line_read}
 use Rattle.decktext.specs.Value.{says_value}
-use Rattle.hexfloat.specs.Answer.{gives, stops}
-use mathlib.Core.Logic.{⊎_elim}
-use Rattle.decktext.specs.declared.given.Given.{Given as GivenLine}
+use Rattle.hexfloat.specs.Answer.{stops}
 use Rattle.decktext.specs.declared.line.Judged.{Judged}
 use Rattle.decktext.proofs.Lines.{part, length_part}
 use lib.ListN.{length}
 use Prim.Native.Nat.{ℕ, ◌+◌, ◌-◌, ◌≤◌, ◌<◌}
 use mathlib.Core.Path.{◌≡◌, refl, sym, ap, ◌∙◌}
 use native.Mathlib.Omega.{arith}
-use borrow.Author.Rules.{rules}
 use Rattle.decktext.specs.declared.line.Progress.{Progress as Place}
 use Rattle.decktext.specs.declared.line.Sizes.{Sizes}
 use Rattle.decktext.specs.declared.reader.LineSpan.{LineSpan}

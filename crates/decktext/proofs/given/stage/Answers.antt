@@ -1,6 +1,5 @@
 use native.Mathlib.Omega.{arith}
 use Rattle.decktext.specs.Staged.{staged_with}
-use borrow.Author.Rules.{rules}
 use Rattle.decktext.proofs.given.stage.Goals as goal
 
 pub bounds-staged-i : goal.bounds-staged-i

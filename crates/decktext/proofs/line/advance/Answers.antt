@@ -1,5 +1,4 @@
 use Rattle.decktext.specs.Read.{buffered_with, progressed}
-use borrow.Author.Rules.{rules}
 use Rattle.decktext.proofs.line.advance.Goals as goal
 
 pub returns-in-Headed : goal.returns-in-Headed

@@ -1,5 +1,4 @@
 use borrow.Author.Tests.{ne_eqb}
-use borrow.Author.Rules.{rules}
 use Rattle.decktext.proofs.line.halfword_value.Goals as goal
 
 pub returns-in-0 : goal.returns-in-0

@@ -1,7 +1,6 @@
 use Rattle.decktext.proofs.Same.{same_none, same_length}
 use Rattle.decktext.specs.Walk.{judged_line}
 use mathlib.Core.List.{[]}
-use borrow.Author.Rules.{rules}
 use Rattle.decktext.proofs.line.judge.Goals as goal
 
 pub returns-then-line-eq0 : goal.returns-then-line-eq0

@@ -1,6 +1,5 @@
 use Rattle.protection.specs.Form.{holds}
 use borrow.Author.Tests.{lt-ltb, le-ltb, le-leb, lt-leb}
-use borrow.Author.Rules.{rules}
 use Rattle.decktext.proofs.line.judge_halfword.Goals as goal
 
 pub returns-then-at-p : goal.returns-then-at-p

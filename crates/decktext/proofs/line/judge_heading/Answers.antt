@@ -1,4 +1,3 @@
-use borrow.Author.Rules.{rules}
 use Rattle.decktext.proofs.line.judge_heading.Goals as goal
 
 pub returns-then-is_same : goal.returns-then-is_same

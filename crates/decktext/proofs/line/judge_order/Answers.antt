@@ -1,5 +1,4 @@
 use borrow.Author.Tests.{le-leb, lt-leb}
-use borrow.Author.Rules.{rules}
 use Rattle.decktext.proofs.line.judge_order.Goals as goal
 
 pub returns-in_default : goal.returns-in_default

@@ -1,5 +1,4 @@
 use borrow.Author.Tests.{ne_eqb}
-use borrow.Author.Rules.{rules}
 use Rattle.decktext.proofs.line.order_value.Goals as goal
 
 pub returns-then-i-eq0 : goal.returns-then-i-eq0

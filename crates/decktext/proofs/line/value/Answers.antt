@@ -4,9 +4,7 @@ use Rattle.hexfloat.specs.Answer.{stops}
 use Prim.Native.Nat.{ℕ}
 use mathlib.Core.Path.{◌≡◌, refl, ◌∙◌}
 use mathlib.Core.Bool.{Bool}
-use mathlib.Core.List.{List, [], ◌∷◌}
-use native.Mathlib.Omega.{arith}
-use borrow.Author.Rules.{rules}
+use mathlib.Core.List.{List}
 use Rattle.decktext.proofs.line.value.Goals as goal
 
 -- a heading has no values

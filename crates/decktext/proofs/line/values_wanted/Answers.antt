@@ -1,5 +1,4 @@
 use borrow.Author.Tests.{eq-eqb, ne_eqb}
-use borrow.Author.Rules.{rules}
 use Rattle.decktext.proofs.line.values_wanted.Goals as goal
 
 pub returns-then-bytes-eq0 : goal.returns-then-bytes-eq0

@@ -1,8 +1,8 @@
 use Rattle.decktext.proofs.Digits.{grown, within}
 use Rattle.decktext.proofs.Same.{next}
 use Rattle.decktext.specs.Key.{bytes_from, name_key}
-use lib.ListN.{length, drop, drop_of_length-le}
-use Prim.Native.Nat.{ℕ, ◌+◌, ◌-◌, ◌*◌, ◌^◌, ◌≤◌, ◌<◌}
+use lib.ListN.{length, drop_of_length-le}
+use Prim.Native.Nat.{ℕ, ◌+◌, ◌*◌}
 use mathlib.Core.Path.{◌≡◌, refl, ap}
 use native.Mathlib.Omega.{arith}
 use Rattle.decktext.proofs.mnemonic.key.Goals as goal

@@ -1,10 +1,7 @@
-use Rattle.decktext.proofs.Digits.{grown, within}
-use Rattle.decktext.proofs.Same.{next}
-use Rattle.decktext.specs.Key.{bytes_from, name_key}
-use lib.ListN.{length, drop, drop_of_length-le}
-use Prim.Native.Nat.{ℕ, ◌+◌, ◌-◌, ◌*◌, ◌^◌, ◌≤◌, ◌<◌}
-use mathlib.Core.Path.{◌≡◌, refl, ap}
-use native.Mathlib.Omega.{arith}
+use Rattle.decktext.specs.Key.{bytes_from}
+use lib.ListN.{length, drop}
+use Prim.Native.Nat.{◌-◌, ◌^◌, ◌≤◌, ◌<◌}
+use mathlib.Core.Path.{◌≡◌}
 use Rattle.decktext.proofs.mnemonic.key.Given as goal
 
 abbrev pub invariant-loop-i : goal.invariant-loop-i

@@ -1,5 +1,4 @@
 use borrow.Author.Tests.{eq-eqb, ne_eqb}
-use borrow.Author.Rules.{rules}
 use Rattle.decktext.specs.Key.{slot_of}
 use Rattle.decktext.proofs.mnemonic.look_up.Goals as goal
 

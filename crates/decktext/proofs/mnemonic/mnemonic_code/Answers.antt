@@ -2,7 +2,6 @@ use Rattle.decktext.proofs.Names.{code_long, code_by_key_lem}
 use Rattle.decktext.specs.Key.{code_by_key}
 use mathlib.Core.Path.{sym, ap, ◌∙◌}
 use native.Mathlib.Omega.{arith}
-use borrow.Author.Rules.{rules}
 use Rattle.decktext.proofs.mnemonic.mnemonic_code.Goals as goal
 
 pub returns-then-v-gt4 : goal.returns-then-v-gt4

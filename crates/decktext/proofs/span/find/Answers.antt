@@ -1,7 +1,6 @@
 use native.Mathlib.Nat.{add_assoc}
 use native.Mathlib.Omega.{arith}
-use Prim.Native.Nat.{◌-◌, ◌≤◌}
-use Rattle.decktext.proofs.Lines.{Passed, start, on, found, none}
+use Rattle.decktext.proofs.Lines.{start, on, found, none}
 use Rattle.decktext.proofs.span.find.Goals as goal
 
 pub loop-i-init : goal.loop-i-init

@@ -1,7 +1,5 @@
-use native.Mathlib.Nat.{add_assoc}
-use native.Mathlib.Omega.{arith}
 use Prim.Native.Nat.{◌-◌, ◌≤◌}
-use Rattle.decktext.proofs.Lines.{Passed, start, on, found, none}
+use Rattle.decktext.proofs.Lines.{Passed}
 use Rattle.decktext.proofs.span.find.Given as goal
 
 abbrev pub invariant-loop-i : goal.invariant-loop-i

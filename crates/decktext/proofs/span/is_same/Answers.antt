@@ -1,9 +1,6 @@
 use Rattle.decktext.proofs.Same.{same_length, same_next, same_end}
-use Rattle.decktext.specs.Text.{same}
 use borrow.Author.Tests.{eq-eqb, ne_eqb}
-use lib.ListN.{length, drop}
-use Prim.Native.Nat.{◌-◌, ◌≤◌}
-use mathlib.Core.Path.{◌≡◌, refl, sym, ◌∙◌}
+use mathlib.Core.Path.{refl, sym, ◌∙◌}
 use native.Mathlib.Omega.{arith}
 use Rattle.decktext.proofs.span.is_same.Goals as goal
 

@@ -1,10 +1,7 @@
-use Rattle.decktext.proofs.Same.{same_length, same_next, same_end}
 use Rattle.decktext.specs.Text.{same}
-use borrow.Author.Tests.{eq-eqb, ne_eqb}
 use lib.ListN.{length, drop}
 use Prim.Native.Nat.{◌-◌, ◌≤◌}
-use mathlib.Core.Path.{◌≡◌, refl, sym, ◌∙◌}
-use native.Mathlib.Omega.{arith}
+use mathlib.Core.Path.{◌≡◌}
 use Rattle.decktext.proofs.span.is_same.Given as goal
 
 abbrev pub invariant-loop-i : goal.invariant-loop-i

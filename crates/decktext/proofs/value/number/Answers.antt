@@ -1,8 +1,5 @@
-use Rattle.decktext.proofs.Digits.{Number, start, fits, on, stop, end, end_large}
-use lib.ListN.{length}
-use Prim.Native.Nat.{◌-◌}
+use Rattle.decktext.proofs.Digits.{start, fits, on, stop, end, end_large}
 use native.Mathlib.Omega.{arith}
-use borrow.Author.Rules.{rules}
 use Rattle.decktext.proofs.value.number.Goals as goal
 
 pub loop-i-init : goal.loop-i-init

@@ -1,8 +1,6 @@
-use Rattle.decktext.proofs.Digits.{Number, start, fits, on, stop, end, end_large}
+use Rattle.decktext.proofs.Digits.{Number}
 use lib.ListN.{length}
 use Prim.Native.Nat.{◌-◌}
-use native.Mathlib.Omega.{arith}
-use borrow.Author.Rules.{rules}
 use Rattle.decktext.proofs.value.number.Given as goal
 
 abbrev pub invariant-loop-i : goal.invariant-loop-i

@@ -1,6 +1,5 @@
 use Rattle.decktext.proofs.Decimals.{protect_number, protect_other}
 use mathlib.Core.Path.{◌∙◌}
-use borrow.Author.Rules.{rules}
 use Rattle.decktext.proofs.value.protect.Goals as goal
 
 pub returns-then-v-ne1 : goal.returns-then-v-ne1

@@ -1,6 +1,5 @@
 use Rattle.decktext.proofs.Decimals.{word_number, word_other}
 use mathlib.Core.Path.{◌∙◌}
-use borrow.Author.Rules.{rules}
 use Rattle.decktext.proofs.value.word.Goals as goal
 
 pub returns-then-v-ne4 : goal.returns-then-v-ne4

@@ -1,5 +1,4 @@
 -- `addend` meets its contract: each sense, one by one.
-use borrow.Author.Rules.{rules}
 use Rattle.hexfloat.specs.Add.{addend_of}
 use Rattle.hexfloat.proofs.addition.addend.Goals as goal
 

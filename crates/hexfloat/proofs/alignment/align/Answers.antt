@@ -3,7 +3,6 @@ use mathlib.Core.Path.{ap, ◌∙◌, sym}
 use Prim.Native.Nat.{ℕ, ◌-◌, ◌*◌, ◌/◌, ◌^◌, ◌<◌}
 use native.Mathlib.Nat.{lt_of_lt_of_le}
 use native.Mathlib.Omega.{arith}
-use borrow.Author.Rules.{rules}
 use Rattle.hexfloat.proofs.Aligned.{guarded_most, aligned_gone}
 use Rattle.hexfloat.proofs.Digits.{mono, four_bits, moved_left}
 use Rattle.hexfloat.specs.Align.{aligned}

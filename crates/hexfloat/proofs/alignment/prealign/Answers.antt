@@ -1,6 +1,5 @@
 -- `prealign` meets its contract: no characteristic is larger than the common one.
 use native.Mathlib.Omega.{arith}
-use borrow.Author.Rules.{rules}
 use Rattle.hexfloat.specs.Operand.{prealigned}
 use Rattle.hexfloat.proofs.Aligned.{common_left, common_right}
 use Rattle.hexfloat.proofs.alignment.prealign.Goals as goal

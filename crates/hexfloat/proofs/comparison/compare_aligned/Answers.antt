@@ -1,6 +1,5 @@
 -- `compare_aligned` meets its contract: what is ranked are the aligned fractions.
 use mathlib.Core.Path.{ap, ◌∙◌}
-use borrow.Author.Rules.{rules}
 use Rattle.hexfloat.specs.declared.alignment.Prealigned.{Prealigned}
 use Rattle.hexfloat.specs.Compare.{signed_rank, compared_aligned}
 use Rattle.hexfloat.specs.Operand.{prealigned}

@@ -1,7 +1,6 @@
 -- `compare_exact` meets its contract: the keys rank as the magnitudes do.
 use mathlib.Core.Path.{ap₂, ◌∙◌}
 use Prim.Native.Nat.{ℕ}
-use borrow.Author.Rules.{rules}
 use Rattle.hexfloat.specs.Compare.{signed_rank}
 use Rattle.hexfloat.proofs.Compared.{keys_rank}
 use Rattle.hexfloat.proofs.comparison.compare_exact.Goals as goal

@@ -9,7 +9,6 @@ use Rattle.hexfloat.specs.declared.word.Parts.{Parts}
 use Rattle.hexfloat.specs.Operand.{Operand, magnitude_key, normalised}
 use Rattle.hexfloat.proofs.Digits.{mono}
 use Rattle.hexfloat.proofs.Normalised.{normal_most, place_most}
-use borrow.Author.Rules.{rules}
 use Rattle.hexfloat.proofs.comparison.magnitude_key.Goals as goal
 
 -- the key of a normalised operand is a u64

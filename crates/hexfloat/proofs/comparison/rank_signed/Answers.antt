@@ -2,7 +2,6 @@
 use mathlib.Core.Path.{◌≡◌, sym, ap, ◌∙◌}
 use Prim.Native.Nat.{ℕ, ◌+◌}
 use native.Mathlib.Omega.{arith}
-use borrow.Author.Rules.{rules}
 use Rattle.hexfloat.specs.Compare.{rank_condition}
 use Rattle.hexfloat.proofs.Compared.{both_above, both_below, first_above, first_below}
 use Rattle.hexfloat.proofs.Keys.{ranks_above, ranks_below}

@@ -1,6 +1,5 @@
 -- `complement` meets its contract: the word with its sign bit inverted is the word of its parts with the other sign.
 use native.Mathlib.Omega.{arith}
-use borrow.Author.Rules.{rules}
 use borrow.Author.Tests.{eq-eqb, ne_eqb}
 use Rattle.hexfloat.specs.Condition.{complement}
 use Rattle.hexfloat.proofs.condition_code.complement.Goals as goal

@@ -1,5 +1,4 @@
 -- `condition` meets its contract.
-use borrow.Author.Rules.{rules}
 use Rattle.hexfloat.specs.Condition.{operand_condition}
 use Rattle.hexfloat.proofs.condition_code.condition.Goals as goal
 

@@ -1,5 +1,4 @@
 -- `condition_of` meets its contract: by the callee, with the tests of the definition.
-use borrow.Author.Rules.{rules}
 use Rattle.hexfloat.proofs.condition_code.condition_of.Goals as goal
 
 pub returns : goal.returns

@@ -1,5 +1,4 @@
 -- `general_condition` meets its contract.
-use borrow.Author.Rules.{rules}
 use Rattle.hexfloat.specs.Condition.{general_condition}
 use Rattle.hexfloat.proofs.condition_code.general_condition.Goals as goal
 

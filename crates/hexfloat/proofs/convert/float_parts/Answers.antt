@@ -10,7 +10,6 @@ use Rattle.hexfloat.specs.Convert.{word_magnitude, float_parts}
 use Rattle.hexfloat.proofs.Converted.{characteristic, fraction}
 use Rattle.hexfloat.proofs.Digits.{leading_digits, digits-positive, moved_left}
 use Rattle.hexfloat.proofs.Normalised.{moved_most}
-use borrow.Author.Rules.{rules}
 use Rattle.hexfloat.proofs.convert.float_parts.Goals as goal
 use Rattle.hexfloat.proofs.convert.float_parts.Goals.{After-magnitude-m}
 

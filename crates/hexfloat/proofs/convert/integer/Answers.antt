@@ -6,7 +6,6 @@ use native.Mathlib.Omega.{arith}
 use lib.Pow.{pow-add}
 use Rattle.hexfloat.proofs.Digits.{pos, mono, four_bits, moved_left}
 use Rattle.hexfloat.proofs.Converted as converted
-use borrow.Author.Rules.{rules}
 use Rattle.hexfloat.proofs.convert.integer.Goals as goal
 
 pub returns-then-c-ge66 : goal.returns-then-c-ge66

@@ -1,6 +1,5 @@
 -- `magnitude` meets its contract: each test of the definition is the code's.
 use native.Mathlib.Omega.{arith}
-use borrow.Author.Rules.{rules}
 use borrow.Author.Tests.{lt-ltb, le-ltb}
 use Rattle.hexfloat.proofs.convert.magnitude.Goals as goal
 

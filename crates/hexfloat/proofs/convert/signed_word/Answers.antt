@@ -1,5 +1,4 @@
 -- `signed_word` meets its contract: each test of the definition is the code's.
-use borrow.Author.Rules.{rules}
 use borrow.Author.Tests.{eq-eqb, ne_eqb}
 use Rattle.hexfloat.proofs.convert.signed_word.Goals as goal
 

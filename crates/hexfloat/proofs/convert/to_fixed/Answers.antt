@@ -7,7 +7,6 @@ use Rattle.hexfloat.specs.declared.word.Parts.{Parts}
 use Rattle.hexfloat.specs.Word.{short_parts}
 use Rattle.hexfloat.proofs.Converted.{fixed, fixed_of_zero, fixed_large, overflows}
 use Rattle.hexfloat.proofs.Fits.{short_fits}
-use borrow.Author.Rules.{rules}
 use Rattle.hexfloat.proofs.convert.to_fixed.Goals as goal
 
 pub returns-then-p-eq0 : goal.returns-then-p-eq0

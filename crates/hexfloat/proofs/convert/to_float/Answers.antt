@@ -1,5 +1,4 @@
 -- `to_float` meets its contract: the parts are in range, so the word is theirs.
-use borrow.Author.Rules.{rules}
 use Rattle.hexfloat.specs.Convert.{to_float}
 use Rattle.hexfloat.proofs.Fits.{float_fits}
 use Rattle.hexfloat.proofs.convert.to_float.Goals as goal

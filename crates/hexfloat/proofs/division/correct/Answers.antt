@@ -1,7 +1,6 @@
 -- `correct` meets its contract: what is left is below the divisor, or is after one more is taken.
 use mathlib.Core.Path.{refl}
 use native.Mathlib.Omega.{arith}
-use borrow.Author.Rules.{rules}
 use Rattle.hexfloat.proofs.Turns.{taken, one_more_taken}
 use Rattle.hexfloat.proofs.division.correct.Goals as goal
 

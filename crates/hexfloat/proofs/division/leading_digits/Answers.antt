@@ -1,9 +1,8 @@
 -- `leading_digits` meets its contract: the short dividend fits a u64, and the two turns of a long division are one.
 use mathlib.Core.Path.{◌≡◌, ap, ◌∙◌}
-use Prim.Native.Nat.{ℕ, ◌+◌, ◌-◌, ◌*◌, ◌/◌, ◌%◌, ◌^◌, ◌<◌}
+use Prim.Native.Nat.{ℕ, ◌+◌, ◌*◌, ◌/◌, ◌%◌, ◌^◌, ◌<◌}
 use native.Mathlib.Nat.{le_of_eq, le_of_lt, lt_of_le_of_lt, lt_of_lt_of_le, le-add_right, mod-lt, mod-eq_of_lt}
 use native.Mathlib.Omega.{arith}
-use borrow.Author.Rules.{rules}
 use Rattle.hexfloat.specs.declared.division.Turn.{Turn}
 use Rattle.hexfloat.specs.declared.word.Width.TheVariants.{Short, Long}
 use Rattle.hexfloat.specs.Operand.{Dividends}

@@ -6,7 +6,6 @@ use native.Mathlib.Omega.{arith}
 use Rattle.hexfloat.specs.Operand.{Turning, turn_of}
 use Rattle.hexfloat.proofs.Digits.{four_bits}
 use Rattle.hexfloat.proofs.Turns.{under, enough, up, kept, estimate_few, remaining_near, shifted_fits}
-use borrow.Author.Rules.{rules}
 use Rattle.hexfloat.proofs.division.take_turn.Goals as goal
 use Rattle.hexfloat.proofs.division.take_turn.Goals.{Start}
 

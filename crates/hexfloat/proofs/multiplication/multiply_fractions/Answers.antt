@@ -1,7 +1,6 @@
 -- `multiply_fractions` meets its contract: each partial product fits a u64, and so do their sums.
 use Prim.Native.Nat.{◌+◌, ◌/◌, ◌^◌, ◌≤◌, ◌<◌}
 use native.Mathlib.Omega.{arith}
-use borrow.Author.Rules.{rules}
 use Rattle.hexfloat.proofs.Multiplied.{high_by_high, high_by_low, low_by_high, low_by_low, middle, parts_whole, high_by_low_most, low_by_high_most, low_by_low_most, first_part_most}
 use Rattle.hexfloat.proofs.multiplication.multiply_fractions.Goals as goal
 use Rattle.hexfloat.proofs.multiplication.multiply_fractions.Goals.{Start}

@@ -1,6 +1,5 @@
 -- `signed_sum` meets its contract: neither part is larger than both magnitudes together.
 use native.Mathlib.Omega.{arith}
-use borrow.Author.Rules.{rules}
 use Rattle.hexfloat.proofs.Signs.{parts_whole}
 use Rattle.hexfloat.proofs.signed.signed_sum.Goals as goal
 

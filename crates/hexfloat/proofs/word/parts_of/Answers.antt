@@ -1,5 +1,4 @@
 -- `parts_of` meets its contract, by the width.
-use borrow.Author.Rules.{rules}
 use Rattle.hexfloat.proofs.word.parts_of.Goals as goal
 
 pub returns-in-Short : goal.returns-in-Short

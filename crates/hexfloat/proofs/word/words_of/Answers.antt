@@ -1,6 +1,5 @@
 -- `words_of` meets its contract, by the width.
 use mathlib.Core.Path.{ap}
-use borrow.Author.Rules.{rules}
 use Rattle.hexfloat.specs.Word.{short_words}
 use Rattle.hexfloat.proofs.word.words_of.Goals as goal
 

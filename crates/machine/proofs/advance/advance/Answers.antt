@@ -1,14 +1,12 @@
 -- `machine::advance::advance` meets its contract: the invariant: what the steps so far and those that are left lead to, whatever registers the other seat has.
 -- Assumes nothing.
-use Rattle.std.proofs.Common.{◌-◌, [], sym, refl, ap, ◌∙◌, arith, rules}
-use Rattle.protection.specs.Bits.{bitwise}
+use Rattle.std.proofs.Common.{[], sym, refl, ap, ◌∙◌, arith}
 use Rattle.machine.specs.declared.state.Registers.{Registers}
 use Rattle.machine.specs.declared.state.Status.{Status}
-use Rattle.machine.specs.Machine.{registers, machine_of}
+use Rattle.machine.specs.Machine.{registers}
 use Rattle.machine.specs.Says.{says}
-use Rattle.machine.specs.Seats.{Beside}
 use Rattle.machine.proofs.Decided.{committable_seated}
-use Rattle.machine.proofs.Runs.{Under, under_start, under_on, under_stop, under_end}
+use Rattle.machine.proofs.Runs.{under_start, under_on, under_stop, under_end}
 use Rattle.machine.proofs.Seats.{committed-seated}
 use Rattle.machine.proofs.advance.advance.Goals as goal
 

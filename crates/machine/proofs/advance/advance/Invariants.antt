@@ -1,13 +1,8 @@
-use Rattle.std.proofs.Common.{◌-◌, [], sym, refl, ap, ◌∙◌, arith, rules}
+use Rattle.std.proofs.Common.{◌-◌}
 use Rattle.protection.specs.Bits.{bitwise}
-use Rattle.machine.specs.declared.state.Registers.{Registers}
-use Rattle.machine.specs.declared.state.Status.{Status}
-use Rattle.machine.specs.Machine.{registers, machine_of}
-use Rattle.machine.specs.Says.{says}
+use Rattle.machine.specs.Machine.{machine_of}
 use Rattle.machine.specs.Seats.{Beside}
-use Rattle.machine.proofs.Decided.{committable_seated}
-use Rattle.machine.proofs.Runs.{Under, under_start, under_on, under_stop, under_end}
-use Rattle.machine.proofs.Seats.{committed-seated}
+use Rattle.machine.proofs.Runs.{Under}
 use Rattle.machine.proofs.advance.advance.Given as goal
 
 abbrev pub invariant-loop-count : goal.invariant-loop-count

@@ -1,6 +1,5 @@
 -- `machine::change::float_change` meets its contract: each arm computes its case.
 -- Assumes nothing.
-use Rattle.std.proofs.Common.{rules}
 use Rattle.machine.specs.Change.{float_change}
 use Rattle.machine.proofs.change.float_change.Goals as goal
 

@@ -1,6 +1,5 @@
 -- `machine::change::is_guarded` meets its contract: each arm computes its case of `guarded`.
 -- Assumes nothing.
-use Rattle.std.proofs.Common.{rules}
 use Rattle.machine.specs.Change.{guarded}
 use Rattle.machine.proofs.change.is_guarded.Goals as goal
 

@@ -1,6 +1,5 @@
 -- `machine::change::is_placed` meets its contract: each arm computes its case of `placed`.
 -- Assumes nothing.
-use Rattle.std.proofs.Common.{rules}
 use Rattle.machine.specs.Change.{placed}
 use Rattle.machine.proofs.change.is_placed.Goals as goal
 

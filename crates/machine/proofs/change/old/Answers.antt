@@ -1,6 +1,6 @@
 -- `machine::change::old` meets its contract: each arm computes its case; its places are there.
 -- Assumes nothing.
-use Rattle.std.proofs.Common.{arith, rules}
+use Rattle.std.proofs.Common.{arith}
 use Rattle.machine.specs.Change.{old_of}
 use Rattle.machine.proofs.Placed.{registered_float, registered_pair, placed_two, placed_four}
 use Rattle.machine.proofs.change.old.Goals as goal

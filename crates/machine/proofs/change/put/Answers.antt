@@ -1,6 +1,6 @@
 -- `machine::change::put` meets its contract: each arm computes its case for both sets.
 -- Assumes nothing.
-use Rattle.std.proofs.Common.{arith, rules}
+use Rattle.std.proofs.Common.{arith}
 use Rattle.machine.specs.Change.{float_after, general_after}
 use Rattle.machine.proofs.Placed.{registered_float, registered_pair, registered_general}
 use Rattle.machine.proofs.change.put.Goals as goal

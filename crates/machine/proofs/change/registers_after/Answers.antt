@@ -1,6 +1,5 @@
 -- `machine::change::registers_after` meets its contract: by the callee.
 -- Assumes nothing.
-use Rattle.std.proofs.Common.{rules}
 use Rattle.machine.proofs.change.registers_after.Goals as goal
 
 pub returns : goal.returns

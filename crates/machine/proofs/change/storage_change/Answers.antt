@@ -1,6 +1,5 @@
 -- `machine::change::storage_change` meets its contract: each arm computes its case.
 -- Assumes nothing.
-use Rattle.std.proofs.Common.{rules}
 use Rattle.machine.specs.Change.{storage_change}
 use Rattle.machine.proofs.change.storage_change.Goals as goal
 

@@ -1,6 +1,6 @@
 -- `machine::change::store` meets its contract: each arm computes its case of `memory_after`; a word is stored by `put_word`.
 -- Assumes nothing.
-use Rattle.std.proofs.Common.{arith, rules}
+use Rattle.std.proofs.Common.{arith}
 use Rattle.machine.specs.Change.{memory_after}
 use Rattle.machine.proofs.Placed.{placed_two, placed_four}
 use Rattle.machine.proofs.change.store.Goals as goal

@@ -1,6 +1,6 @@
 -- `machine::check::any_protected` meets its contract: the invariant: what is left to look at decides.
 -- Assumes nothing.
-use Rattle.std.proofs.Common.{◌≡◌, ◌-◌, ◌≤◌, sym, ap, ◌∙◌, arith, rules}
+use Rattle.std.proofs.Common.{sym, ap, ◌∙◌, arith}
 use Rattle.protection.specs.Bits.{bitwise}
 use Rattle.machine.specs.Check.{any_protected}
 use Rattle.machine.proofs.Protects.{any_more, any_none}

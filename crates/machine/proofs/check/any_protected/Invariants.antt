@@ -1,7 +1,6 @@
-use Rattle.std.proofs.Common.{◌≡◌, ◌-◌, ◌≤◌, sym, ap, ◌∙◌, arith, rules}
+use Rattle.std.proofs.Common.{◌≡◌, ◌-◌, ◌≤◌}
 use Rattle.protection.specs.Bits.{bitwise}
 use Rattle.machine.specs.Check.{any_protected}
-use Rattle.machine.proofs.Protects.{any_more, any_none}
 use Rattle.machine.proofs.check.any_protected.Given as goal
 
 abbrev pub invariant-loop-a : goal.invariant-loop-a

@@ -1,6 +1,6 @@
 -- `machine::check::is_present` meets its contract: the tests, one by one.
 -- Assumes nothing.
-use Rattle.std.proofs.Common.{rules, eq-eqb, ne_eqb}
+use Rattle.std.proofs.Common.{eq-eqb, ne_eqb}
 use Rattle.machine.specs.Check.{present}
 use Rattle.machine.proofs.check.is_present.Goals as goal
 

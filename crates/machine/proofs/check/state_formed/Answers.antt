@@ -1,7 +1,5 @@
 -- `machine::check::state_formed` meets its contract: the three tests in turn.
 -- Assumes nothing.
-use borrow.Author.Tests.{not-true, not-false}
-use Rattle.std.proofs.Common.{rules}
 use Rattle.machine.specs.Check.{state_formed}
 use Rattle.machine.proofs.check.state_formed.Goals as goal
 

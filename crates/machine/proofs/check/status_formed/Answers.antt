@@ -1,7 +1,7 @@
 -- `machine::check::status_formed` meets its contract: the three tests in turn.
 -- Assumes nothing.
-use Rattle.std.proofs.Common.{rules, le-leb}
-use borrow.Author.Tests.{lt-leb, not-true, not-false}
+use Rattle.std.proofs.Common.{le-leb}
+use borrow.Author.Tests.{lt-leb}
 use Rattle.machine.specs.Status.{status_formed}
 use Rattle.machine.proofs.check.status_formed.Goals as goal
 

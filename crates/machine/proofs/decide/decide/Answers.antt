@@ -1,6 +1,6 @@
 -- `machine::decide::decide` meets its contract: the checks in turn.
 -- Assumes nothing.
-use Rattle.std.proofs.Common.{sym, ap, ◌∙◌, arith, rules, le-ltb, lt-ltb, eq-eqb, ne_eqb}
+use Rattle.std.proofs.Common.{sym, ap, ◌∙◌, arith, le-ltb, lt-ltb, eq-eqb, ne_eqb}
 use Rattle.orders.specs.Order.{says_legality}
 use Rattle.machine.specs.Stops.{number_of}
 use Rattle.machine.proofs.Checks.{entered}

@@ -1,7 +1,5 @@
 -- `machine::decide::held` meets its contract: checks 2 and 3 in turn.
 -- Assumes nothing.
-use borrow.Author.Tests.{not-true, not-false}
-use Rattle.std.proofs.Common.{rules}
 use Rattle.machine.specs.Decide.{held_stop}
 use Rattle.machine.proofs.decide.held.Goals as goal
 

@@ -1,7 +1,6 @@
 -- `machine::decide::judge` meets its contract: each `return` rewrites with the checks that led there.
 -- Assumes nothing.
-use Rattle.std.proofs.Common.{◌/◌, sym, ◌∙◌, arith, rules, le-ltb, lt-ltb, leb-false, leb-true}
-use borrow.Author.Tests.{not-true, not-false}
+use Rattle.std.proofs.Common.{◌/◌, sym, ◌∙◌, arith, le-ltb, lt-ltb}
 use Rattle.machine.specs.Decide.{judged}
 use Rattle.machine.proofs.decide.judge.Goals as goal
 

@@ -1,6 +1,5 @@
 -- `machine::effect::complement` meets its contract: by the callee.
 -- Assumes nothing.
-use Rattle.std.proofs.Common.{rules}
 use Rattle.machine.proofs.effect.complement.Goals as goal
 
 pub returns : goal.returns

@@ -1,6 +1,5 @@
 -- `machine::effect::divide` meets its contract: by the callees.
 -- Assumes nothing.
-use Rattle.std.proofs.Common.{rules}
 use Rattle.machine.proofs.effect.divide.Goals as goal
 
 pub returns : goal.returns

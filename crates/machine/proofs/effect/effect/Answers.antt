@@ -1,6 +1,5 @@
 -- `machine::effect::effect` meets its contract: the second operand is fetched, and the order performed.
 -- Assumes nothing.
-use Rattle.std.proofs.Common.{rules}
 use Rattle.machine.specs.Effect.{effect_of}
 use Rattle.machine.proofs.effect.effect.Goals as goal
 

@@ -1,6 +1,5 @@
 -- `machine::effect::fix` meets its contract: by the callees.
 -- Assumes nothing.
-use Rattle.std.proofs.Common.{rules}
 use Rattle.machine.proofs.effect.fix.Goals as goal
 
 pub returns-in-Word : goal.returns-in-Word

@@ -1,6 +1,5 @@
 -- `machine::effect::load` meets its contract: by the callees.
 -- Assumes nothing.
-use Rattle.std.proofs.Common.{rules}
 use Rattle.machine.proofs.effect.load.Goals as goal
 
 pub returns : goal.returns

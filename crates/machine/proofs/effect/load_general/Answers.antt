@@ -1,6 +1,5 @@
 -- `machine::effect::load_general` meets its contract: by the callees.
 -- Assumes nothing.
-use Rattle.std.proofs.Common.{rules}
 use Rattle.machine.proofs.effect.load_general.Goals as goal
 
 pub returns : goal.returns

@@ -1,6 +1,5 @@
 -- `machine::effect::perform` meets its contract: each arm computes its case of `performed`.
 -- Assumes nothing.
-use Rattle.std.proofs.Common.{rules}
 use Rattle.machine.specs.Effect.{performed}
 use Rattle.machine.proofs.effect.perform.Goals as goal
 

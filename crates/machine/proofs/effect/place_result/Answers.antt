@@ -1,6 +1,5 @@
 -- `machine::effect::place_result` meets its contract: each answer of the arithmetic, one by one.
 -- Assumes nothing.
-use Rattle.std.proofs.Common.{rules}
 use Rattle.machine.proofs.effect.place_result.Goals as goal
 
 -- the code by the result

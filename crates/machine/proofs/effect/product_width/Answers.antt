@@ -1,6 +1,6 @@
 -- `machine::effect::product_width` meets its contract: the register's test is the definition's.
 -- Assumes nothing.
-use Rattle.std.proofs.Common.{◌%◌, Bool, cond, sym, ap, rules, eq-eqb, ne_eqb}
+use Rattle.std.proofs.Common.{◌%◌, Bool, cond, sym, ap, eq-eqb, ne_eqb}
 use Rattle.hexfloat.specs.declared.word.Width.{Width}
 use Rattle.machine.proofs.effect.product_width.Goals as goal
 

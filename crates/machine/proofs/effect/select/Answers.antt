@@ -1,6 +1,5 @@
 -- `machine::effect::select` meets its contract: by the callee.
 -- Assumes nothing.
-use Rattle.std.proofs.Common.{rules}
 use Rattle.machine.proofs.effect.select.Goals as goal
 
 pub returns : goal.returns

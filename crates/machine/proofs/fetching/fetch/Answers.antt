@@ -1,7 +1,6 @@
 -- `machine::fetching::fetch` meets its contract: checks 5 and 6, then both operands.
 -- Assumes nothing.
-use borrow.Author.Tests.{not-true, not-false}
-use Rattle.std.proofs.Common.{sym, ap, ◌∙◌, rules}
+use Rattle.std.proofs.Common.{sym, ap, ◌∙◌}
 use Rattle.orders.specs.Order.{says_legality}
 use Rattle.machine.specs.Fetch.{operands_read}
 use Rattle.machine.proofs.Rows.{legal_passed}

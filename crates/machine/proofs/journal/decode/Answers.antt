@@ -1,7 +1,6 @@
 -- `machine::journal::decode` meets its contract: the condition code, the bits above the selector, then the kind.
 -- Assumes nothing.
-use Rattle.std.proofs.Common.{rules, le-ltb, lt-ltb}
-use borrow.Author.Tests.{not-true, not-false}
+use Rattle.std.proofs.Common.{le-ltb, lt-ltb}
 use Rattle.machine.specs.Journal.{decoded}
 use Rattle.machine.proofs.journal.decode.Goals as goal
 

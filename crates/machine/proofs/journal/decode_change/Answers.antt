@@ -1,6 +1,6 @@
 -- `machine::journal::decode_change` meets its contract: the kinds one by one.
 -- Assumes nothing.
-use Rattle.std.proofs.Common.{rules, ne_eqb}
+use Rattle.std.proofs.Common.{ne_eqb}
 use Rattle.machine.specs.Journal.{change_from}
 use Rattle.machine.proofs.journal.decode_change.Goals as goal
 

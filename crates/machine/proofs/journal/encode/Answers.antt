@@ -1,6 +1,6 @@
 -- `machine::journal::encode` meets its contract: word 0 with the seat, then the change.
 -- Assumes nothing.
-use Rattle.std.proofs.Common.{arith, rules}
+use Rattle.std.proofs.Common.{arith}
 use Rattle.machine.proofs.journal.encode.Goals as goal
 
 pub overflow_mul-seat : goal.overflow_mul-seat

@@ -1,6 +1,5 @@
 -- `machine::journal::encode_change` meets its contract: each arm computes its case of `encoded_as`.
 -- Assumes nothing.
-use Rattle.std.proofs.Common.{rules}
 use Rattle.machine.specs.Journal.{encoded_as}
 use Rattle.machine.proofs.journal.encode_change.Goals as goal
 

@@ -1,6 +1,5 @@
 -- `machine::journal::record_of` meets its contract: the old contents, packed.
 -- Assumes nothing.
-use Rattle.std.proofs.Common.{rules}
 use Rattle.machine.proofs.journal.record_of.Goals as goal
 
 pub returns : goal.returns

@@ -1,6 +1,6 @@
 -- `machine::journal::write_record` meets its contract: the four words are inside after each store.
 -- Assumes nothing.
-use Rattle.std.proofs.Common.{refl, arith, length-set, rules}
+use Rattle.std.proofs.Common.{refl, arith, length-set}
 use Rattle.machine.specs.Journal.{written}
 use Rattle.machine.proofs.journal.write_record.Goals as goal
 

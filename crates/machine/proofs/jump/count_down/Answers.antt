@@ -1,6 +1,5 @@
 -- `machine::jump::count_down` meets its contract: by the callees.
 -- Assumes nothing.
-use Rattle.std.proofs.Common.{rules}
 use Rattle.machine.specs.Jump.{counted_down}
 use Rattle.machine.proofs.jump.count_down.Goals as goal
 

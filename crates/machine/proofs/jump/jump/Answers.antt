@@ -1,6 +1,5 @@
 -- `machine::jump::jump` meets its contract: by the callees.
 -- Assumes nothing.
-use Rattle.std.proofs.Common.{rules}
 use Rattle.machine.specs.Jump.{jumped}
 use Rattle.machine.proofs.jump.jump.Goals as goal
 

@@ -1,6 +1,5 @@
 -- `machine::jump::moved` meets its contract: either way.
 -- Assumes nothing.
-use Rattle.std.proofs.Common.{rules}
 use Rattle.machine.proofs.jump.moved.Goals as goal
 
 pub returns-then-jump : goal.returns-then-jump

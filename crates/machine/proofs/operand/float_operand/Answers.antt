@@ -1,6 +1,5 @@
 -- `machine::operand::float_operand` meets its contract: by the callees.
 -- Assumes nothing.
-use Rattle.std.proofs.Common.{rules}
 use Rattle.machine.specs.Operand.{float_operand}
 use Rattle.machine.proofs.operand.float_operand.Goals as goal
 

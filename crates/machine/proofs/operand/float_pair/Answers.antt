@@ -1,6 +1,5 @@
 -- `machine::operand::float_pair` meets its contract: by the callee.
 -- Assumes nothing.
-use Rattle.std.proofs.Common.{rules}
 use Rattle.machine.proofs.operand.float_pair.Goals as goal
 
 pub returns : goal.returns

@@ -1,6 +1,6 @@
 -- `machine::operand::long_at` meets its contract: by the callee.
 -- Assumes nothing.
-use Rattle.std.proofs.Common.{arith, rules}
+use Rattle.std.proofs.Common.{arith}
 use Rattle.machine.proofs.operand.long_at.Goals as goal
 
 pub overflow_add-at : goal.overflow_add-at

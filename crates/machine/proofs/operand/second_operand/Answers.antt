@@ -1,6 +1,5 @@
 -- `machine::operand::second_operand` meets its contract: by the callees; storage operands are there.
 -- Assumes nothing.
-use Rattle.std.proofs.Common.{rules}
 use Rattle.machine.specs.Operand.{second_operand}
 use Rattle.machine.proofs.Checks.{reach}
 use Rattle.machine.proofs.Placed.{some}

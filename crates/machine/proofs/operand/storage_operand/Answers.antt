@@ -1,6 +1,5 @@
 -- `machine::operand::storage_operand` meets its contract: by the callees.
 -- Assumes nothing.
-use Rattle.std.proofs.Common.{rules}
 use Rattle.machine.specs.Operand.{storage_operand}
 use Rattle.machine.proofs.operand.storage_operand.Goals as goal
 

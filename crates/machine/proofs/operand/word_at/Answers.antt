@@ -1,6 +1,6 @@
 -- `machine::operand::word_at` meets its contract: two halfwords fit a word.
 -- Assumes nothing.
-use Rattle.std.proofs.Common.{◌+◌, arith, rules}
+use Rattle.std.proofs.Common.{◌+◌, arith}
 use Rattle.machine.proofs.operand.word_at.Goals as goal
 
 pub overflow_mul-result : goal.overflow_mul-result

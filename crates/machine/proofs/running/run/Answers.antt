@@ -1,6 +1,6 @@
 -- `machine::running::run` meets its contract: checks 20 and 1 to 3, then the steps.
 -- Assumes nothing.
-use Rattle.std.proofs.Common.{sym, refl, ◌∙◌, rules, eq-eqb, ne_eqb}
+use Rattle.std.proofs.Common.{sym, refl, ◌∙◌, eq-eqb, ne_eqb}
 use Rattle.machine.specs.Run.{ran}
 use Rattle.machine.specs.Stops.{number_of}
 use Rattle.machine.proofs.Seats.{steps_seated}

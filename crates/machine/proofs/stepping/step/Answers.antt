@@ -1,6 +1,6 @@
 -- `machine::stepping::step` meets its contract: a step of the seat, beside the other.
 -- Assumes nothing.
-use Rattle.std.proofs.Common.{refl, ◌∙◌, rules}
+use Rattle.std.proofs.Common.{refl, ◌∙◌}
 use Rattle.machine.proofs.Seats.{stepped_seated}
 use Rattle.machine.proofs.stepping.step.Goals as goal
 

@@ -1,6 +1,5 @@
 -- `machine::stepping::step_seat` meets its contract: at most one step is a step.
 -- Assumes nothing.
-use Rattle.std.proofs.Common.{rules}
 use Rattle.machine.proofs.Runs.{one_step}
 use Rattle.machine.proofs.stepping.step_seat.Goals as goal
 

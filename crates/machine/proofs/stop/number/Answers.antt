@@ -1,6 +1,5 @@
 -- `machine::stop::number` meets its contract: the table, row by row.
 -- Assumes nothing.
-use Rattle.std.proofs.Common.{rules}
 use Rattle.machine.proofs.stop.number.Goals as goal
 
 pub returns-in-Taken : goal.returns-in-Taken

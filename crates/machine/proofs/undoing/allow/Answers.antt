@@ -1,7 +1,5 @@
 -- `machine::undoing::allow` meets its contract: the two tests in turn.
 -- Assumes nothing.
-use borrow.Author.Tests.{not-true, not-false}
-use Rattle.std.proofs.Common.{rules}
 use Rattle.machine.specs.Back.{allowed}
 use Rattle.machine.proofs.undoing.allow.Goals as goal
 

@@ -1,6 +1,6 @@
 -- `machine::undoing::back` meets its contract: a refusal leaves all; else what the record says is put back into its seat.
 -- Assumes nothing.
-use Rattle.std.proofs.Common.{sym, ap, ◌∙◌, arith, rules}
+use Rattle.std.proofs.Common.{sym, ap, ◌∙◌, arith}
 use Rattle.machine.specs.Back.{backed}
 use Rattle.machine.specs.Says.{says}
 use Rattle.machine.proofs.Checks.{held}

@@ -1,6 +1,6 @@
 -- `machine::undoing::recall` meets its contract: the checks in turn.
 -- Assumes nothing.
-use Rattle.std.proofs.Common.{sym, ◌∙◌, arith, rules, eq-eqb, ne_eqb}
+use Rattle.std.proofs.Common.{sym, ◌∙◌, arith, eq-eqb, ne_eqb}
 use Rattle.machine.specs.Back.{returning}
 use Rattle.machine.specs.Stops.{number_of}
 use Rattle.machine.proofs.Checks.{held}

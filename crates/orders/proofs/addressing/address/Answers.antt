@@ -1,7 +1,6 @@
 -- `orders::addressing::address` meets its contract: two halfwords added.
 -- Assumes nothing.
 use native.Mathlib.Omega.{arith}
-use borrow.Author.Rules.{rules}
 use Rattle.orders.specs.Address.{address_of}
 use Rattle.orders.proofs.Addresses.{index_below}
 use Rattle.orders.proofs.addressing.address.Goals as goal

@@ -2,7 +2,6 @@
 -- Assumes nothing.
 use mathlib.Core.Path.{sym}
 use lib.ListN.{get_or-eq_default}
-use borrow.Author.Rules.{rules}
 use Rattle.orders.proofs.deck.cell_at.Goals as goal
 
 pub returns-then-deck-i : goal.returns-then-deck-i

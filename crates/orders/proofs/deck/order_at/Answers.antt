@@ -1,6 +1,5 @@
 -- `orders::deck::order_at` meets its contract: the four cells.
 -- Assumes nothing.
-use borrow.Author.Rules.{rules}
 use Rattle.orders.proofs.deck.order_at.Goals as goal
 
 pub returns : goal.returns

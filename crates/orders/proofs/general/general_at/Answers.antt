@@ -1,7 +1,6 @@
 -- `orders::general::general_at` meets its contract: a set or register that is not there, and the others.
 -- Assumes nothing.
 use mathlib.Core.Path.{sym}
-use borrow.Author.Rules.{rules}
 use Rattle.orders.proofs.Generals.{no_set, no_register, register_there}
 use Rattle.orders.proofs.general.general_at.Goals as goal
 

@@ -1,7 +1,6 @@
 -- `orders::order::legal` meets its contract: the limits, one by one.
 -- Assumes nothing.
 use borrow.Author.Tests.{le-leb, lt-leb}
-use borrow.Author.Rules.{rules}
 use Rattle.orders.specs.Order.{legal_of, within_limits}
 use Rattle.orders.proofs.order.legal.Goals as goal
 

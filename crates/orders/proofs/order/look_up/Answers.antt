@@ -1,7 +1,6 @@
 -- `orders::order::look_up` meets its contract: the codes, one by one.
 -- Assumes nothing.
 use borrow.Author.Tests.{ne_eqb}
-use borrow.Author.Rules.{rules}
 use Rattle.orders.specs.Order.{operation_of, row_among}
 use Rattle.orders.proofs.order.look_up.Goals as goal
 

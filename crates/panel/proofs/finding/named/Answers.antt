@@ -1,6 +1,5 @@
 -- `panel::finding::named` meets its contract: each kind of register has its number.
 -- Assumes nothing.
-use borrow.Author.Rules.{rules}
 use Rattle.panel.proofs.finding.named.Goals as goal
 
 pub returns-in-Float : goal.returns-in-Float

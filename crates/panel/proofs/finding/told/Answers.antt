@@ -1,6 +1,5 @@
 -- `panel::finding::told` meets its contract: each answer has its number, and what it names.
 -- Assumes nothing.
-use borrow.Author.Rules.{rules}
 use Rattle.panel.proofs.finding.told.Goals as goal
 
 pub returns-in-DeckSize : goal.returns-in-DeckSize

@@ -1,6 +1,5 @@
 -- `panel::interval::limits` meets its contract: each answer has its number, and what it names.
 -- Assumes nothing.
-use borrow.Author.Rules.{rules}
 use Rattle.panel.proofs.interval.limits.Goals as goal
 
 pub returns-in-Refused : goal.returns-in-Refused

@@ -1,7 +1,6 @@
 -- `panel::interval::stretch_by_value` meets its contract: what was found, as C sees it; the state is as it was.
 -- Assumes nothing.
 use Rattle.panel.proofs.Told.{told_stretch}
-use borrow.Author.Rules.{rules}
 use Rattle.panel.proofs.interval.stretch_by_value.Goals as goal
 
 pub returns : goal.returns

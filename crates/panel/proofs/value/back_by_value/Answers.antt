@@ -1,7 +1,6 @@
 -- `panel::value::back_by_value` meets its contract: the stop's number stands for the stop, and the seat for whose step it was.
 -- Assumes nothing.
 use mathlib.Core.Path.{◌∙◌, ap}
-use borrow.Author.Rules.{rules}
 use Rattle.machine.specs.Machine.{Machine}
 use Rattle.machine.specs.Step.{Outcome}
 use Rattle.panel.specs.Back.{seat_said}

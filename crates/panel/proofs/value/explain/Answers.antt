@@ -1,6 +1,5 @@
 -- `panel::value::explain` meets its contract: each name computes its values.
 -- Assumes nothing.
-use borrow.Author.Rules.{rules}
 use Rattle.panel.proofs.value.explain.Goals as goal
 
 pub returns-in-Nothing : goal.returns-in-Nothing

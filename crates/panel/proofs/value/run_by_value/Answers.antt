@@ -1,6 +1,5 @@
 -- `panel::value::run_by_value` meets its contract: by the callees.
 -- Assumes nothing.
-use borrow.Author.Rules.{rules}
 use Rattle.panel.proofs.value.run_by_value.Goals as goal
 
 pub returns : goal.returns

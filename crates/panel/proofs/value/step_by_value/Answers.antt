@@ -2,7 +2,6 @@
 -- Assumes nothing.
 use mathlib.Core.Path.{◌∙◌, ap}
 use Rattle.machine.specs.Step.{single}
-use borrow.Author.Rules.{rules}
 use Rattle.panel.proofs.value.step_by_value.Goals as goal
 
 pub returns : goal.returns

@@ -1,6 +1,5 @@
 -- `panel::value::why_by_value` meets its contract: what was found, as C sees it.
 -- Assumes nothing.
-use borrow.Author.Rules.{rules}
 use Rattle.panel.proofs.value.why_by_value.Goals as goal
 
 pub returns : goal.returns

@@ -2,7 +2,6 @@
 -- Assumes nothing.
 use Prim.Native.Nat.{◌/◌, ◌≤◌}
 use lib.ListN.{length, get_or-eq_default}
-use borrow.Author.Rules.{rules}
 use Rattle.protection.specs.Form.{is_protected}
 use Rattle.protection.proofs.Bits.{no_bits}
 use Rattle.protection.proofs.list.is_protected.Goals as goal

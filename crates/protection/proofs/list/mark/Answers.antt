@@ -2,7 +2,6 @@
 -- Assumes nothing.
 use mathlib.Core.Path.{sym, ap}
 use lib.Seq.{set_out}
-use borrow.Author.Rules.{rules}
 use Rattle.protection.specs.Form.{with_mark}
 use Rattle.protection.specs.Bits.{bitwise}
 use Rattle.protection.proofs.list.mark.Goals as goal

@@ -1,11 +1,7 @@
 -- `stretch::jump::has_jump` meets its contract. The loop's invariant: no order passed so far is a jump. Assumes nothing.
-use Prim.Native.Nat.{ℕ, ◌-◌, ◌/◌, ◌<◌, ◌≤◌}
 use native.Mathlib.Omega.{arith}
 use mathlib.Core.Logic.{inl, inr, ⊎_elim}
-use lib.ListN.{length}
 use borrow.Author.Count.{below_more}
-use borrow.Author.Rules.{rules}
-use Rattle.stretch.specs.Jump.{IsJump}
 use Rattle.stretch.proofs.jump.has_jump.Goals as goal
 
 pub returns-then-code-eq20 : goal.returns-then-code-eq20

@@ -1,7 +1,6 @@
 -- `stretch::restoring::put_record` meets its contract. Assumes nothing.
 use borrow.Author.Tests.{le-leb, lt-leb}
 use Rattle.stretch.specs.Restore.{record_back}
-use borrow.Author.Rules.{rules}
 use Rattle.stretch.proofs.restoring.put_record.Goals as goal
 
 pub returns-then-i-journal : goal.returns-then-i-journal

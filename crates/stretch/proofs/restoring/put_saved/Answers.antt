@@ -1,7 +1,6 @@
 -- `stretch::restoring::put_saved` meets its contract: a case a kind, and whether the halfwords are there. Assumes nothing.
 use borrow.Author.Tests.{eq-eqb, ne_eqb, le-leb, lt-leb}
 use Rattle.stretch.specs.Restore.{saved_back}
-use borrow.Author.Rules.{rules}
 use Rattle.stretch.proofs.restoring.put_saved.Goals as goal
 
 pub returns-then-at-memory : goal.returns-then-at-memory

@@ -1,7 +1,6 @@
 -- `stretch::restoring::put_word` meets its contract. Assumes nothing.
 use native.Mathlib.Omega.{arith}
 use lib.ListN.{length-set}
-use borrow.Author.Rules.{rules}
 use Rattle.stretch.proofs.restoring.put_word.Goals as goal
 
 pub bounds-memory-at-2 : goal.bounds-memory-at-2

@@ -1,9 +1,7 @@
 -- `stretch::restoring::restore` meets its contract. The loop's invariant: the records that are left lead from here to where all of them lead from the
 -- start. Assumes nothing.
-use Prim.Native.Nat.{◌≤◌}
-use mathlib.Core.Path.{◌≡◌, refl, sym, ap, ◌∙◌}
+use mathlib.Core.Path.{refl, sym, ap, ◌∙◌}
 use native.Mathlib.Omega.{arith}
-use lib.ListN.{length}
 use borrow.Author.Rules.{rules}
 use Rattle.stretch.specs.Restore.{restored}
 use Rattle.stretch.proofs.Restored.{restored_on, restored_none}

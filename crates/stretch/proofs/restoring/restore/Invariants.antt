@@ -1,10 +1,7 @@
 use Prim.Native.Nat.{◌≤◌}
-use mathlib.Core.Path.{◌≡◌, refl, sym, ap, ◌∙◌}
-use native.Mathlib.Omega.{arith}
+use mathlib.Core.Path.{◌≡◌}
 use lib.ListN.{length}
-use borrow.Author.Rules.{rules}
 use Rattle.stretch.specs.Restore.{restored}
-use Rattle.stretch.proofs.Restored.{restored_on, restored_none}
 use Rattle.stretch.proofs.restoring.restore.Given as goal
 
 abbrev pub invariant-loop-left : goal.invariant-loop-left

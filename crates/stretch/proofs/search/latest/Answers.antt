@@ -1,12 +1,8 @@
 -- `stretch::search::latest` meets its contract. The loop's invariant: every order above `first` was tried, and none stops alike. Assumes nothing.
-use Prim.Native.Nat.{◌≤◌}
-use mathlib.Core.Path.{◌≡◌, refl}
+use mathlib.Core.Path.{refl}
 use native.Mathlib.Omega.{arith}
-use lib.ListN.{length}
 use borrow.Author.Rules.{rules}
-use Rattle.protection.specs.Bits.{bitwise}
-use Rattle.machine.specs.Machine.{machine}
-use Rattle.stretch.proofs.Searching.{Sought, sought_start, sought_on, sought_here, sought_end}
+use Rattle.stretch.proofs.Searching.{sought_start, sought_on, sought_here, sought_end}
 use Rattle.stretch.proofs.search.latest.Goals as goal
 
 pub loop-first-init : goal.loop-first-init

@@ -1,11 +1,9 @@
 use Prim.Native.Nat.{◌≤◌}
-use mathlib.Core.Path.{◌≡◌, refl}
-use native.Mathlib.Omega.{arith}
+use mathlib.Core.Path.{◌≡◌}
 use lib.ListN.{length}
-use borrow.Author.Rules.{rules}
 use Rattle.protection.specs.Bits.{bitwise}
 use Rattle.machine.specs.Machine.{machine}
-use Rattle.stretch.proofs.Searching.{Sought, sought_start, sought_on, sought_here, sought_end}
+use Rattle.stretch.proofs.Searching.{Sought}
 use Rattle.stretch.proofs.search.latest.Given as goal
 
 abbrev pub invariant-loop-first : goal.invariant-loop-first

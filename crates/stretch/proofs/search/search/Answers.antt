@@ -1,6 +1,5 @@
 -- `stretch::search::search` meets its contract. Assumes nothing.
 use native.Mathlib.Omega.{arith}
-use borrow.Author.Rules.{rules}
 use Rattle.stretch.proofs.Searching.{whole_other, whole_on, whole_found}
 use Rattle.stretch.proofs.search.search.Goals as goal
 

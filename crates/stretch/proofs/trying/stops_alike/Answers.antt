@@ -1,5 +1,4 @@
 -- `stretch::trying::stops_alike` meets its contract. Assumes nothing.
-use borrow.Author.Rules.{rules}
 use Rattle.stretch.proofs.Searching.{tried_elsewhere, tried_there}
 use Rattle.stretch.proofs.trying.stops_alike.Goals as goal
 

@@ -5,7 +5,6 @@ use lib.Bits.{or_zero_r}
 use Prim.Native.Nat.{◌+◌, ◌%◌, ◌^◌}
 use Rattle.machine.specs.Uses.{floats}
 use Rattle.unset.specs.Bits.{bits_of}
-use borrow.Author.Rules.{rules}
 use Rattle.unset.proofs.bits.float_bits.Goals as goal
 
 pub returns-in-Short : goal.returns-in-Short

@@ -7,7 +7,6 @@ use lib.Bits.{or_zero_r}
 use Rattle.machine.specs.Uses.{general}
 use Rattle.unset.specs.Answer.{rank}
 use Rattle.unset.specs.Bits.{bits_of}
-use borrow.Author.Rules.{rules}
 use Rattle.unset.proofs.bits.general_bit.Goals as goal
 
 pub returns : goal.returns

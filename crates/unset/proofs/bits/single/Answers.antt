@@ -4,7 +4,6 @@ use lib.Pow.{shl_exact}
 use native.Mathlib.Nat.{one-mul}
 use native.Mathlib.Omega.{arith}
 use mathlib.Core.Path.{◌∙◌}
-use borrow.Author.Rules.{rules}
 use Rattle.unset.proofs.bits.single.Goals as goal
 
 pub returns : goal.returns

@@ -1,13 +1,8 @@
 -- `unset::finding::all_legal` meets its contract. The loop's invariant: every order passed is legal. The measure is what is left of the deck.
 -- Assumes nothing.
-use Prim.Native.Nat.{ℕ, ◌-◌, ◌/◌, ◌<◌, ◌≤◌}
 use mathlib.Core.Path.{subst}
-use lib.ListN.{length}
 use native.Mathlib.Omega.{arith}
 use borrow.Author.Count.{below_more}
-use borrow.Author.Rules.{rules}
-use borrow.Author.Tests.{not-true, not-false}
-use Rattle.unset.specs.Answer.{Legal}
 use Rattle.unset.specs.Finding.{SaysLegal}
 use Rattle.unset.proofs.finding.all_legal.Goals as goal
 

@@ -1,12 +1,6 @@
 use Prim.Native.Nat.{ℕ, ◌-◌, ◌/◌, ◌<◌, ◌≤◌}
-use mathlib.Core.Path.{subst}
 use lib.ListN.{length}
-use native.Mathlib.Omega.{arith}
-use borrow.Author.Count.{below_more}
-use borrow.Author.Rules.{rules}
-use borrow.Author.Tests.{not-true, not-false}
 use Rattle.unset.specs.Answer.{Legal}
-use Rattle.unset.specs.Finding.{SaysLegal}
 use Rattle.unset.proofs.finding.all_legal.Given as goal
 
 abbrev pub invariant-loop-p : goal.invariant-loop-p

@@ -1,8 +1,6 @@
 -- `unset::finding::first_unset` meets its contract: checks 1 and 5, and what the search finds.
 -- Assumes nothing.
 use mathlib.Core.Path.{refl, sym, subst, ◌∙◌}
-use borrow.Author.Rules.{rules}
-use borrow.Author.Tests.{not-true, not-false}
 use Rattle.unset.specs.Answer.{Answers, Checked}
 use Rattle.unset.specs.Finding.{SaysAllLegal}
 use Rattle.unset.proofs.Exploring.{zeros}

@@ -2,7 +2,6 @@
 -- Assumes nothing.
 use mathlib.Core.Path.{sym, ap, ◌∙◌}
 use Rattle.orders.specs.Order.{legal_of, says_legality}
-use borrow.Author.Rules.{rules}
 use Rattle.unset.proofs.finding.is_legal.Goals as goal
 
 pub returns-in-Legal : goal.returns-in-Legal

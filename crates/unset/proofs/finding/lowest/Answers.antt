@@ -1,12 +1,8 @@
 -- `unset::finding::lowest` meets its contract. The loop's invariant: no order passed reads a register unset. The measure is what is left of the deck.
 -- Assumes nothing.
-use Prim.Native.Nat.{ℕ, ◌-◌, ◌/◌, ◌<◌, ◌≤◌}
-use lib.ListN.{length}
 use native.Mathlib.Omega.{arith}
 use borrow.Author.Count.{below_more}
-use borrow.Author.Rules.{rules}
-use Rattle.machine.specs.Uses.{Register}
-use Rattle.unset.specs.Answer.{ReadUnset, Answers}
+use Rattle.unset.specs.Answer.{Answers}
 use Rattle.unset.proofs.Lowest.{unset_none, unset_small, unset_lowest}
 use Rattle.unset.proofs.Sized.{few_cells}
 use Rattle.unset.proofs.finding.lowest.Goals as goal

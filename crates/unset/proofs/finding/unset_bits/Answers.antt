@@ -2,7 +2,6 @@
 -- Assumes nothing.
 use mathlib.Core.Path.{sym, ap, ◌∙◌}
 use native.Mathlib.Omega.{arith}
-use borrow.Author.Rules.{rules}
 use Rattle.orders.specs.Order.{legal_of, says_legality}
 use Rattle.hexfloat.proofs.Answers.{never}
 use Rattle.unset.proofs.Registers.{numbered}

@@ -1,7 +1,6 @@
 -- `unset::path::selector_after` meets its contract: by its test.
 -- Assumes nothing.
 use mathlib.Core.Path.{sym, ◌∙◌}
-use borrow.Author.Rules.{rules}
 use Rattle.unset.proofs.path.selector_after.Goals as goal
 
 pub returns-then-selects : goal.returns-then-selects

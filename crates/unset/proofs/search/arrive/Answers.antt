@@ -3,7 +3,6 @@
 use native.Mathlib.Omega.{arith}
 use borrow.Author.Tests.{eq-eqb, ne_eqb}
 use Rattle.unset.specs.Search.{pushed, arrived}
-use borrow.Author.Rules.{rules}
 use Rattle.unset.proofs.search.arrive.Goals as goal
 
 pub returns-then-union-old : goal.returns-then-union-old

@@ -1,13 +1,10 @@
 -- `unset::search::explore` meets its contract. The invariant is that of the search; the measure is what is left to do, by the bits still to gain.
 -- Assumes nothing.
 use mathlib.Core.Path.{refl, sym, subst}
-use Prim.Native.Nat.{◌-◌, ◌*◌, ◌/◌, ◌<◌}
-use lib.ListN.{length}
+use Prim.Native.Nat.{◌-◌}
 use native.Mathlib.Omega.{arith}
 use Rattle.unset.proofs.Sized.{few_cells, few_orders}
-use Rattle.unset.specs.Search.{Search, search_of, stacked}
-use Rattle.unset.proofs.Exploring.{Searching, Onward, blank, blank-stacked, searching_starts, searching_on, searching_ends}
-use Rattle.unset.proofs.Gains.{left}
+use Rattle.unset.proofs.Exploring.{Searching, blank, blank-stacked, searching_starts, searching_on, searching_ends}
 use Rattle.unset.proofs.Stack.{top_at_most, stacked-popped}
 use Rattle.unset.proofs.search.explore.Goals as goal
 

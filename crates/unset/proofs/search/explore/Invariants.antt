@@ -1,12 +1,6 @@
-use mathlib.Core.Path.{refl, sym, subst}
-use Prim.Native.Nat.{◌-◌, ◌*◌, ◌/◌, ◌<◌}
-use lib.ListN.{length}
-use native.Mathlib.Omega.{arith}
-use Rattle.unset.proofs.Sized.{few_cells, few_orders}
-use Rattle.unset.specs.Search.{Search, search_of, stacked}
-use Rattle.unset.proofs.Exploring.{Searching, Onward, blank, blank-stacked, searching_starts, searching_on, searching_ends}
+use Rattle.unset.specs.Search.{search_of}
+use Rattle.unset.proofs.Exploring.{Searching}
 use Rattle.unset.proofs.Gains.{left}
-use Rattle.unset.proofs.Stack.{top_at_most, stacked-popped}
 use Rattle.unset.proofs.search.explore.Given as goal
 
 abbrev pub invariant-loop-top : goal.invariant-loop-top

@@ -6,9 +6,6 @@ use native.Mathlib.Omega.{arith}
 use borrow.Author.Tests.{lt-ltb, le-ltb}
 use Rattle.unset.specs.Search.{reached, places}
 use Rattle.unset.proofs.Stack.{room}
-use borrow.Author.Rules.{rules}
-use Rattle.unset.proofs.search.reach.Statement.{statement}
-use Rattle.unset.proofs.search.reach.Tie as tie
 
 pub returns-then-orders-x : goal.returns-then-orders-x
 unfolding reached

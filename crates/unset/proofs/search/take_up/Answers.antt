@@ -1,6 +1,6 @@
 -- `unset::search::take_up` meets its contract: by the callees, since the order is legal; the stack is in order before each arrival.
 -- Assumes nothing.
-use Prim.Native.Nat.{ℕ, ◌/◌, ◌≤◌}
+use Prim.Native.Nat.{ℕ, ◌/◌}
 use mathlib.Core.List.{List}
 use Rattle.orders.specs.declared.order.Order.{Order}
 use Rattle.orders.specs.declared.order.Legality.{Legality}
@@ -12,12 +12,11 @@ use Rattle.orders.specs.declared.order.Operation.{Operation}
 use Rattle.orders.specs.Order.{order_at, legal_of, says_legality}
 use Rattle.unset.specs.Bits.{without}
 use Rattle.unset.specs.Path.{nexts}
-use Rattle.unset.specs.Search.{Search, search_of, word_at, reached, reached_all, Stacked, TakenUp}
+use Rattle.unset.specs.Search.{search_of, word_at, reached, reached_all, Stacked, TakenUp}
 use Rattle.unset.proofs.Points.{after_small}
 use Rattle.unset.proofs.Registers.{numbered}
 use Rattle.unset.proofs.Sized.{few_cells, few_orders}
-use Rattle.unset.proofs.Taken.{Handing, on_stacked, taken_on, taken_either}
-use borrow.Author.Rules.{rules}
+use Rattle.unset.proofs.Taken.{on_stacked, taken_on, taken_either}
 use Rattle.unset.proofs.search.take_up.Goals as goal
 
 -- the order that was read is legal, by the deck's cells

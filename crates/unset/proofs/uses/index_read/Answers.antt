@@ -3,7 +3,6 @@
 use borrow.Author.Tests.{eq-eqb, ne_eqb}
 use Rattle.machine.specs.Uses.{index_read}
 use Rattle.unset.specs.Bits.{bits_of}
-use borrow.Author.Rules.{rules}
 use Rattle.unset.proofs.uses.index_read.Goals as goal
 
 pub returns-then-r-eq0 : goal.returns-then-r-eq0

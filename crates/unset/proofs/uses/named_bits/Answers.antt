@@ -2,7 +2,6 @@
 -- Assumes nothing.
 use Rattle.machine.specs.Uses.{floats, named}
 use Rattle.unset.specs.Bits.{bits_of}
-use borrow.Author.Rules.{rules}
 use Rattle.unset.proofs.uses.named_bits.Goals as goal
 
 pub returns-in-Nothing : goal.returns-in-Nothing

@@ -1,6 +1,5 @@
 -- `unset::uses::read` meets its contract: by the callees.
 -- Assumes nothing.
-use borrow.Author.Rules.{rules}
 use Rattle.unset.proofs.uses.read.Goals as goal
 
 pub returns : goal.returns

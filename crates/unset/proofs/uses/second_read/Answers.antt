@@ -2,7 +2,6 @@
 -- Assumes nothing.
 use Rattle.machine.specs.Uses.{second_read}
 use Rattle.unset.specs.Bits.{bits_of}
-use borrow.Author.Rules.{rules}
 use Rattle.unset.proofs.uses.second_read.Goals as goal
 
 pub returns-in-Nowhere : goal.returns-in-Nowhere

@@ -1,6 +1,5 @@
 -- `unset::uses::written` meets its contract: by the callees.
 -- Assumes nothing.
-use borrow.Author.Rules.{rules}
 use Rattle.unset.proofs.uses.written.Goals as goal
 
 pub returns : goal.returns
