@@ -46,7 +46,8 @@ pub fn limited(width: Width, mask: bool, sign: u32, up: u32, down: u32, fraction
 // place up: m is moved left by its leading zero digits, and cut.
 pub fn normalised_result(width: Width, mask: bool, sign: u32, up: u32, down: u32, m: u64) -> Result
     requires sign_bound { sign ≤ 1 }
-    requires m_nonzero { (0 < m) × (up < 2 ^ 16) }
+    requires m_nonzero { 0 < m }
+    requires up_bound { up < 2 ^ 16 }
     ensures { (a b : ℕ) → 0 < b → IsPlaced (digits_of width) a b (up + digits m) down (first_digits (digits_of width) m) → says_result result ≡ mapped (words_of width) (result_of (digits_of width) mask sign a b) }
 {
     let d = crate::word::digits_of(width);

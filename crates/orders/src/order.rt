@@ -99,6 +99,7 @@ fn on_cells(verb: Verb, r1: u16, r2: u16, at: u16) -> Legality
 }
 
 // The row of a code; `Illegal` where the code is unknown.
+#[tactic(auto, unfolding(crate::specs::Order::operation_of, crate::specs::Order::row_among))]
 pub fn look_up(code: u16) -> Legality
     ensures { says_legality result ≡ operation_of code }
 {

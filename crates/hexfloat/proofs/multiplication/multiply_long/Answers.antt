@@ -77,7 +77,7 @@ module _ (c : After-multiply_fractions-p) where
       (digits_of (width u)) (width_fits (width u)).1 (digits_le high 16 (omega arith)) ((n u).place + (m u).place)
 
 pub normalised_result-requires : goal.normalised_result-requires
-normalised_result-requires c = record { sign_bound = omega arith; m_nonzero = (omega (arith, some c), omega (arith, (first (u c)).place, (second (u c)).place)) }
+normalised_result-requires c = record { sign_bound = omega arith; m_nonzero = omega (arith, some c); up_bound = omega (arith, (first (u c)).place, (second (u c)).place) }
 
 pub returns : goal.returns
 returns c =

@@ -36,7 +36,7 @@ pub overflow_mul-p : goal.overflow_mul-p
 overflow_mul-p c = record { fits = omega (arith, short_most (factors c)) }
 
 pub normalised_result-requires : goal.normalised_result-requires
-normalised_result-requires c = record { sign_bound = omega arith; m_nonzero = (short_some (factors c), omega (arith, (factors c).first.characteristic, (factors c).second.characteristic)) }
+normalised_result-requires c = record { sign_bound = omega arith; m_nonzero = short_some (factors c); up_bound = omega (arith, (factors c).first.characteristic, (factors c).second.characteristic) }
 
 pub returns : goal.returns
 unfolding product

@@ -38,7 +38,7 @@ pub overflow_cast-fraction : goal.overflow_cast-fraction
 overflow_cast-fraction c = omega (arith, zeros c)
 
 pub overflow_shl-fraction : goal.overflow_shl-fraction
-overflow_shl-fraction c = omega (arith, zeros c, digits-positive c.requires.m_nonzero.0)
+overflow_shl-fraction c = omega (arith, zeros c, digits-positive c.requires.m_nonzero)
 
 pub overflow_sub-fraction : goal.overflow_sub-fraction
 overflow_sub-fraction c = omega (arith, d_is c, width_fits (w c))
@@ -47,7 +47,7 @@ pub overflow_shr-fraction : goal.overflow_shr-fraction
 overflow_shr-fraction c = omega (arith, d_is c, width_fits (w c))
 
 pub overflow_add-up : goal.overflow_add-up
-overflow_add-up c = omega (arith, c.requires.m_nonzero.1)
+overflow_add-up c = omega (arith, c.requires.up_bound)
 
 pub overflow_sub-up : goal.overflow_sub-up
 overflow_sub-up c = omega (arith, zeros c)
