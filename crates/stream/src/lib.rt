@@ -1,7 +1,7 @@
 // Reading into a buffer, over any reader.
 #![tactic(auto)]
 
-ghost use Rattle.std.specs.Prelude.{◌≡◌, ◌≤◌, ◌<◌, false, length, take};
+ghost use Rattle.std.specs.Prelude.{◌≡◌, ◌≤◌, ◌<◌, false, true, length, take};
 ghost use Rattle.std.specs.Io.KnownBytes.{Consumes, IsAtEnd};
 
 use std::io::Read;
@@ -13,10 +13,12 @@ pub struct Input {
     pub failed: bool,
 }
 
-// Reads until the input ends, the buffer is full or a read fails.
+// Reads until the input ends, the buffer is full or a read fails. What stands past the count is free:
+// a reader may have used that room. When a read fails no clause can say, that is the reader's.
 pub fn read_all<R: Read>(input: &mut R, buf: &mut [u8]) -> Input
     ensures bound { result.count ≤ length buf.new }
     ensures bytes { Consumes (R.remaining input.old) (R.remaining input.new) (take result.count buf.new) }
+    ensures room { result.failed ≡ true → result.count < length buf.new }
     ensures end { result.failed ≡ false → result.count < length buf.new → IsAtEnd (R.remaining input.new) }
 {
     let mut count = 0;
