@@ -32,6 +32,7 @@ pub fn sum(sense: Sense, width: Width, mask: bool, a: Words, b: Words) -> Result
 }
 
 // The second operand, with its sign inverted for a subtraction.
+#[tactic(auto, unfolding(crate::specs::Add::addend_of))]
 fn addend(sense: Sense, p: Parts) -> Parts
     ensures { result ≡ addend_of sense p }
 {
@@ -63,6 +64,7 @@ fn add_parts(width: Width, mask: bool, a: Parts, b: Parts) -> Result
 }
 
 // A zero fraction counts as true zero.
+#[tactic(auto, unfolding(crate::specs::Add::input))]
 fn as_input(p: Parts) -> Parts
     ensures { result ≡ input p }
 {

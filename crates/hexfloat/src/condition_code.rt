@@ -4,6 +4,7 @@ ghost use Rattle.hexfloat.specs.Condition.{condition_by, condition_of, operand_c
 
 use crate::word::{Parts, Width, Words};
 
+#[tactic(auto, unfolding(crate::specs::Condition::operand_condition))]
 pub fn condition(width: Width, a: Words) -> u8
     ensures { result ≡ operand_condition width a }
 {
@@ -16,6 +17,7 @@ pub fn condition_of(p: Parts) -> u8
     condition_by(p.fraction == 0, p.sign == 0)
 }
 
+#[tactic(auto, unfolding(crate::specs::Condition::general_condition))]
 pub fn general_condition(w: u32) -> u8
     ensures { result ≡ general_condition w }
 {
@@ -28,6 +30,7 @@ pub fn signed_condition(half: u32, n: u32) -> u8
     condition_by(n == 0, n < half)
 }
 
+#[tactic(auto, unfolding(crate::specs::Condition::condition_by))]
 pub fn condition_by(equal: bool, above: bool) -> u8
     ensures { result ≡ condition_by equal above }
 {
@@ -37,6 +40,7 @@ pub fn condition_by(equal: bool, above: bool) -> u8
     if above { 1 } else { 3 }
 }
 
+#[tactic(auto, unfolding(crate::specs::Condition::complement))]
 pub fn complement(w: u32) -> u32
     ensures { result ≡ complement w }
 {

@@ -144,6 +144,7 @@ pub fn look_up(code: u16) -> Legality
 }
 
 // Check 5: the operation, where the code is known and every cell is within its limit.
+#[tactic(auto, unfolding(crate::specs::Order::legal_of, crate::specs::Order::within_limits))]
 pub fn legal(o: Order) -> Legality
     ensures { says_legality result ≡ legal_of o }
 {

@@ -32,6 +32,7 @@ pub fn is_protected(list: &[u8], a: usize) -> bool
 
 // Marks an address as protected or not. Its byte's other bits stay, and where the list does not have the
 // byte nothing is written.
+#[tactic(auto, unfolding(crate::specs::Form::with_mark))]
 pub fn mark(list: &mut [u8], a: usize, v: bool)
     ensures { bitwise list.new ≡ with_mark a (cond v 1 0) (bitwise list.old) }
 {

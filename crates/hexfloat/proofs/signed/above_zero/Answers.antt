@@ -1,9 +1,0 @@
--- `above_zero` meets its contract: the sign's test is the definition's.
-use borrow.Author.Tests.{eq-eqb, ne_eqb}
-use Rattle.hexfloat.proofs.signed.above_zero.Goals as goal
-
-pub returns-then-sign-eq0 : goal.returns-then-sign-eq0
-returns-then-sign-eq0 c = rw (eq-eqb _ _ c.if-sign-eq0.true)
-
-pub returns-else-sign-eq0 : goal.returns-else-sign-eq0
-returns-else-sign-eq0 c = rw (ne_eqb _ _ c.if-sign-eq0.false)
