@@ -35,6 +35,7 @@ pub enum Change {
 }
 
 // Words into R r, or into pair r.
+#[tactic(auto, unfolding(crate::specs::Change::float_change))]
 pub fn float_change(width: Width, r: u32, a: Words) -> Change
     ensures { result ≡ float_change width r a }
 {
@@ -45,6 +46,7 @@ pub fn float_change(width: Width, r: u32, a: Words) -> Change
 }
 
 // Words into S.
+#[tactic(auto, unfolding(crate::specs::Change::storage_change))]
 pub fn storage_change(width: Width, at: u32, a: Words) -> Change
     ensures { result ≡ storage_change width at a }
 {
@@ -55,6 +57,7 @@ pub fn storage_change(width: Width, at: u32, a: Words) -> Change
 }
 
 // Whether the halfwords of a change are there.
+#[tactic(auto, unfolding(crate::specs::Change::placed))]
 pub fn is_placed(ch: Change, memory: usize) -> bool
     ensures { result ≡ placed ch memory }
 {
@@ -69,6 +72,7 @@ pub fn is_placed(ch: Change, memory: usize) -> bool
 }
 
 // Whether a change would store to a protected halfword.
+#[tactic(auto, unfolding(crate::specs::Change::guarded))]
 pub fn is_guarded(protect: &[u8], ch: Change) -> bool
     ensures { result ≡ guarded (bitwise protect.now) ch }
 {

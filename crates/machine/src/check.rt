@@ -14,6 +14,7 @@ use crate::state::Status;
 use protection::{cover, is_protected};
 
 // Check 1.
+#[tactic(auto, unfolding(crate::specs::Check::deck_sized))]
 pub fn deck_sized(deck: usize) -> bool
     ensures { result ≡ deck_sized deck }
 {
@@ -37,6 +38,7 @@ pub fn buffers_sized(protect: &[u8], memory: usize, journal: usize) -> bool
     protect.len() == cover(memory)
 }
 
+#[tactic(auto, unfolding(crate::specs::Status::condition_formed))]
 pub fn condition_formed(condition: u32) -> bool
     ensures { result ≡ condition_formed condition }
 {
@@ -49,6 +51,7 @@ pub fn condition_formed(condition: u32) -> bool
     condition == 3
 }
 
+#[tactic(auto, unfolding(crate::specs::Status::status_formed))]
 fn status_formed(s: Status) -> bool
     ensures { result ≡ status_formed s }
 {
@@ -62,6 +65,7 @@ fn status_formed(s: Status) -> bool
 }
 
 // Check 3, of both seats.
+#[tactic(auto, unfolding(crate::specs::Check::state_formed))]
 pub fn state_formed(s: Status, other: Status, used: u32, journal: usize) -> bool
     ensures { result ≡ state_formed s other used journal }
 {
@@ -75,6 +79,7 @@ pub fn state_formed(s: Status, other: Status, used: u32, journal: usize) -> bool
 }
 
 // Check 6 for `span` halfwords from `at`.
+#[tactic(auto, unfolding(crate::specs::Check::present))]
 pub fn is_present(span: u32, at: u32, memory: usize) -> bool
     requires { span ≤ 4 }
     ensures { result ≡ present span at memory }

@@ -17,6 +17,7 @@ use crate::verdict::Verdict;
 use orders::{Legality, Operation, Order, address, halts, legal, span, stored};
 
 // Checks 2 and 3: `Taken` where both pass.
+#[tactic(auto, unfolding(crate::specs::Decide::held_stop))]
 pub fn held(
     s: Status,
     other: Status,

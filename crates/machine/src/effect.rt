@@ -185,6 +185,7 @@ fn select(s: Status, selector: u16) -> Verdict
 }
 
 // An order whose second operand is b; S, if it has one, is at `at`.
+#[tactic(auto, unfolding(crate::specs::Effect::performed))]
 fn perform(
     verb: Verb,
     width: Width,
@@ -234,6 +235,7 @@ fn perform(
 
 // Checks 8 to 11, or the effect of an order whose S, if it has one, is at `at`. All operands are read
 // here, before anything is written.
+#[tactic(auto, unfolding(crate::specs::Effect::effect_of))]
 pub fn effect(
     op: Operation,
     o: Order,

@@ -45,6 +45,7 @@ pub fn read_record(journal: &[u32], k: u32) -> Record
     }
 }
 
+#[tactic(auto, unfolding(crate::specs::Journal::written))]
 pub fn write_record(journal: &mut [u32], k: u32, q: Record)
     requires { k * 4 + 4 ≤ length journal.old }
     ensures { journal.new ≡ written journal.old k q }
@@ -68,6 +69,7 @@ fn words(head: u32, place: u32, left: u32, right: u32) -> Record
 }
 
 // Word 0 but for the kind and the seat.
+#[tactic(auto, unfolding(crate::specs::Status::packed))]
 fn pack(s: Status) -> u32
     requires { Packable s }
     ensures { (result ≡ packed s) × (result < 8388608) }
@@ -76,12 +78,14 @@ fn pack(s: Status) -> u32
 }
 
 // The seat whose step a record is of.
+#[tactic(auto, unfolding(crate::specs::Journal::seat_in))]
 pub fn seat_in(q: Record) -> u32
     ensures { result ≡ seat_in q }
 {
     q.head / 8388608 % 2
 }
 
+#[tactic(auto, unfolding(crate::specs::Status::unpacked))]
 fn unpack(head: u32) -> Status
     ensures { result ≡ unpacked head }
 {
@@ -94,6 +98,7 @@ fn unpack(head: u32) -> Status
 }
 
 // The record of a change, `base` being word 0 but for its kind.
+#[tactic(auto, unfolding(crate::specs::Journal::encoded_as))]
 fn encode_change(base: u32, ch: Change) -> Record
     requires { base < 16777216 }
     ensures { result ≡ encoded_as base ch }
@@ -158,6 +163,7 @@ fn in_register(r: u32, unused: u32, ch: Change) -> Decoded
 }
 
 // Kind 0: no word but the first is in use.
+#[tactic(auto, unfolding(crate::specs::Journal::change_from))]
 fn unchanged(place: u32, left: u32, right: u32) -> Decoded
     ensures { says_change result ≡ change_from 0 place left right }
 {
@@ -174,6 +180,7 @@ fn unchanged(place: u32, left: u32, right: u32) -> Decoded
 }
 
 // Kind 4: word 3 is not in use.
+#[tactic(auto, unfolding(crate::specs::Journal::change_from))]
 fn two_halfwords(at: u32, word: u32, unused: u32) -> Decoded
     ensures { says_change result ≡ change_from 4 at word unused }
 {
@@ -183,6 +190,7 @@ fn two_halfwords(at: u32, word: u32, unused: u32) -> Decoded
     Decoded::Formed(Change::Two(at, word))
 }
 
+#[tactic(auto, unfolding(crate::specs::Journal::change_from))]
 fn decode_change(kind: u32, place: u32, left: u32, right: u32) -> Decoded
     ensures { says_change result ≡ change_from kind place left right }
 {
@@ -197,6 +205,7 @@ fn decode_change(kind: u32, place: u32, left: u32, right: u32) -> Decoded
     }
 }
 
+#[tactic(auto, unfolding(crate::specs::Journal::decoded))]
 pub fn decode(q: Record) -> Verdict
     ensures { says result ≡ decoded q }
 {

@@ -9,6 +9,7 @@ use crate::state::Status;
 use crate::verdict::{Effect, Verdict};
 
 // Whether the bit for the condition code is set among JC's three.
+#[tactic(auto, unfolding(crate::specs::Jump::jumps))]
 fn is_set(bits: u32, condition: u32) -> bool
     ensures { result ≡ jumps bits condition }
 {
@@ -35,6 +36,7 @@ fn moved(s: Status, jump: bool, at: u16) -> Status
     }
 }
 
+#[tactic(auto, unfolding(crate::specs::Jump::jumped))]
 pub fn jump(s: Status, bits: u32, at: u16) -> Verdict
     requires { s.pointer + 1 < 65536 }
     ensures { says result ≡ gives (jumped s bits at) }
@@ -53,6 +55,7 @@ fn one_less(n: u32) -> u32
 }
 
 // JN, where G r holds w.
+#[tactic(auto, unfolding(crate::specs::Jump::counted_down))]
 pub fn count_down(s: Status, r: u32, w: u32, at: u16) -> Verdict
     requires { s.pointer + 1 < 65536 }
     ensures { says result ≡ gives (counted_down s r w at) }

@@ -57,6 +57,7 @@ fn short(w: u32) -> Words
     Words { high: w, low: 0 }
 }
 
+#[tactic(auto, unfolding(crate::specs::Operand::float_operand))]
 pub fn float_operand(width: Width, float: &[u32; 8], r: u32) -> Words
     requires { r ≤ 7 }
     ensures { result ≡ float_operand width float.now r }
@@ -67,6 +68,7 @@ pub fn float_operand(width: Width, float: &[u32; 8], r: u32) -> Words
     }
 }
 
+#[tactic(auto, unfolding(crate::specs::Operand::storage_operand))]
 fn storage_operand(width: Width, memory: &[u16], at: usize) -> Words
     requires { at + halfwords width ≤ length memory.now }
     ensures { result ≡ storage_operand width memory.now at }

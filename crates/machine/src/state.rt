@@ -35,6 +35,7 @@ pub struct State {
     pub used: u32,
 }
 
+#[tactic(auto, unfolding(crate::specs::Seats::registers_of))]
 pub fn registers_of(s: State, seat: u32) -> Registers
     ensures { result ≡ registers_of seat s }
 {
@@ -42,6 +43,7 @@ pub fn registers_of(s: State, seat: u32) -> Registers
 }
 
 // Those of the seat that was not given.
+#[tactic(auto, unfolding(crate::specs::Seats::other_of))]
 pub fn other_of(s: State, seat: u32) -> Registers
     ensures { result ≡ other_of seat s }
 {

@@ -28,6 +28,7 @@ pub struct Undone {
 }
 
 // Check 15 of an effect that a record gives: its halfwords are there, and none is protected.
+#[tactic(auto, unfolding(crate::specs::Back::allowed))]
 fn allow(e: Effect, protect: &[u8], memory: usize) -> Verdict
     ensures { says result ≡ allowed e (bitwise protect.now) memory }
 {
