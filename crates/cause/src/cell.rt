@@ -13,6 +13,7 @@ pub enum Cell {
 }
 
 // The first cell that breaks the check; `At` where none before it does.
+#[tactic(auto, unfolding(crate::specs::Cell::breaks_row, crate::specs::Cell::first_cell))]
 pub fn first_broken(o: Order) -> Cell
     ensures { result ≡ first_cell (breaks o) }
 {

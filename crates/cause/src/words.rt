@@ -56,6 +56,7 @@ fn words_named(count: u32, width: Width, a: Words, b: Words) -> Named
 }
 
 // The words of the operands that were fetched for an order.
+#[tactic(auto, unfolding(crate::specs::Words::words_read))]
 pub fn words_read(q: Operands) -> Named
     ensures { result ≡ words_read (gives q) }
 {

@@ -33,6 +33,7 @@ fn ats(n: u16, limit: u16) -> u32
 }
 
 // By the table of orders; a code that is not in it has no order.
+#[tactic(auto, unfolding(crate::specs::Block::block_of))]
 pub fn block_of(n: u16, code: u16) -> Block
     ensures { result ≡ block_of n code }
 {

@@ -25,6 +25,7 @@ pub enum Given {
 
 // Stages what a line gives, where n orders and k halfwords came before: an order's four values, or a
 // halfword's three. How many halfwords there are then.
+#[tactic(auto, unfolding(crate::specs::Staged::staged_with))]
 pub fn stage(g: Given, n: u32, k: usize, staged: &mut [u16; 16384]) -> usize
     requires { place_after n k + values_in (given_of g) ≤ 16384 }
     ensures { (result ≡ halfwords_with (given_of g) k) × (staged.new ≡ staged_with (given_of g) n k staged.old) }

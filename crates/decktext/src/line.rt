@@ -186,6 +186,7 @@ fn judge_order(p: Progress, o: Order, s: Sizes) -> Judged
     Judged::Gives(Given::Ordered(o))
 }
 
+#[tactic(auto, unfolding(protection::specs::Form::holds))]
 fn judge_halfword(p: Progress, h: Halfword, s: Sizes) -> Judged
     ensures { (b : Buffers) → Sized b s → says_judged result ≡ halfword_fits (progress_of p b) (halfword_as h) }
 {
@@ -203,6 +204,7 @@ fn judge_halfword(p: Progress, h: Halfword, s: Sizes) -> Judged
     Judged::Gives(Given::Stored(h))
 }
 
+#[tactic(auto, unfolding(crate::specs::Read::buffered_with, crate::specs::Read::progressed))]
 pub fn advance(p: Progress, g: Given) -> Progress
     requires { p.count < 65536 }
     ensures { (b : Buffers) → progress_of result (buffered_with (given_of g) p.count b) ≡ progressed (given_of g) (progress_of p b) }

@@ -31,6 +31,7 @@ fn key(v: &[u8]) -> u64
 }
 
 // One multiplication finds the only slot where the key can stand.
+#[tactic(auto, unfolding(crate::specs::Key::slot_of))]
 fn look_up(key: u64, slots: &[u64]) -> Value
     requires { (key < 34359738368) × SlotTable slots.now }
     ensures { says_value result ≡ code_by_key key }

@@ -17,10 +17,10 @@ pub bounds-v-i : goal.bounds-v-i
 bounds-v-i c = omega arith
 
 pub overflow_cast-n : goal.overflow_cast-n
-overflow_cast-n c = omega (arith, c.shared_slice_known-1.given c.loop-i.i)
+overflow_cast-n c = omega (arith, c.type_inv.v c.loop-i.i)
 
 pub overflow_add-n : goal.overflow_add-n
-overflow_add-n c = let h = within 256 c.loop-i.i 4 (omega arith) c.loop-i.invariant.1 (omega arith) in omega (arith, c.shared_slice_known-1.given c.loop-i.i)
+overflow_add-n c = let h = within 256 c.loop-i.i 4 (omega arith) c.loop-i.invariant.1 (omega arith) in omega (arith, c.type_inv.v c.loop-i.i)
 
 pub overflow_add-i : goal.overflow_add-i
 overflow_add-i c = omega arith
@@ -32,7 +32,7 @@ pub loop-i-preserved : goal.loop-i-preserved
 unfolding bytes_from
 loop-i-preserved c = (
   omega arith,
-  grown 256 c.loop-i.i c.loop-i.invariant.1 (omega (arith, c.shared_slice_known-1.given c.loop-i.i)),
+  grown 256 c.loop-i.i c.loop-i.invariant.1 (omega (arith, c.type_inv.v c.loop-i.i)),
   rw (next c.args.v.now c.loop-i.i c.loop-i-test.true) at c.loop-i.invariant.2,
 )
 

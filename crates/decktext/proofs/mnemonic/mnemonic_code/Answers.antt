@@ -11,4 +11,4 @@ pub returns : goal.returns
 returns c =
     c.look_up.ensures
     ∙ ap code_by_key c.key.ensures.0
-    ∙ sym (code_by_key_lem c.args.v.now (λ i h. omega (arith, c.shared_slice_known-1.given i)) c.if-v-gt4.false)
+    ∙ sym (code_by_key_lem c.args.v.now (λ i h. omega (arith, c.type_inv.v i)) c.if-v-gt4.false)
