@@ -15,6 +15,7 @@ fn put_word(memory: &mut [u16], at: usize, word: u32)
 }
 
 // What a record saves of memory.
+#[tactic(auto, unfolding(crate::specs::Restore::saved_back))]
 fn put_saved(memory: &mut [u16], head: u32, place: u32, left: u32, right: u32)
     ensures { memory.new ≡ saved_back (four_words head place left right) memory.old }
 {
@@ -35,6 +36,7 @@ fn put_saved(memory: &mut [u16], head: u32, place: u32, left: u32, right: u32)
 }
 
 // What record k saves of memory, where the journal has it.
+#[tactic(auto, unfolding(crate::specs::Restore::record_back))]
 fn put_record(memory: &mut [u16], journal: &[u32], k: usize)
     requires { k ≤ 8589934592 }
     ensures { memory.new ≡ record_back journal.now k memory.old }

@@ -10,6 +10,7 @@ use crate::restoring::restore;
 use machine::{Ran, State};
 
 // The state with a seat's pointer moved.
+#[tactic(auto, unfolding(machine::specs::Seats::other_of, crate::specs::Trial::pointed, machine::specs::Seats::registers_of))]
 fn pointed(s: State, seat: u32, order: u16) -> State
     ensures { result ≡ pointed seat order s }
 {

@@ -24,6 +24,7 @@ pub enum Found {
 }
 
 // Register k of the 24: the floats, set 0, set 1.
+#[tactic(auto, unfolding(crate::specs::Bits::register_of))]
 pub fn register_of(k: u32) -> Register
     requires { k < 24 }
     ensures { says_register result ≡ register_of k }

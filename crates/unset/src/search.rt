@@ -13,6 +13,7 @@ use orders::Legality;
 const ALL: u32 = 16777215;
 
 // The bits that are not written.
+#[tactic(auto, unfolding(crate::specs::Bits::without))]
 fn unwritten_of(bits: u32, written: u32) -> u32
     ensures { result ≡ without bits written }
 {
@@ -20,6 +21,7 @@ fn unwritten_of(bits: u32, written: u32) -> u32
 }
 
 // Some registers arrive at a place unwritten. It waits to be taken up if it gains one.
+#[tactic(auto, unfolding(crate::specs::Search::arrived, crate::specs::Search::pushed))]
 fn arrive(
     unwritten: &mut [u32; 8192],
     waiting: &mut [bool; 8192],

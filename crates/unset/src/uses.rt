@@ -9,6 +9,7 @@ use hexfloat::Width;
 use orders::{Operation, Order, Place, Role};
 
 // The index register that r2 names. Register 0 cannot hold an index.
+#[tactic(auto, unfolding(crate::specs::Bits::bits_of, machine::specs::Uses::index_read))]
 fn index_read(s: u32, r: u16) -> u32
     requires { (s ≤ 1) × (r ≤ 7) }
     ensures { result ≡ bits_of (index_read s r) }
@@ -19,6 +20,7 @@ fn index_read(s: u32, r: u16) -> u32
     general_bit(s, r)
 }
 
+#[tactic(auto, unfolding(crate::specs::Bits::bits_of, machine::specs::Uses::second_read))]
 fn second_read(place: Place, width: Width, o: Order, s: u32) -> u32
     requires { Numbered o s }
     ensures { result ≡ bits_of (second_read place width o s) }
@@ -32,6 +34,7 @@ fn second_read(place: Place, width: Width, o: Order, s: u32) -> u32
 }
 
 // What r1 names by its role, for operands of that width.
+#[tactic(auto, unfolding(crate::specs::Bits::bits_of, machine::specs::Uses::floats, machine::specs::Uses::named))]
 fn named_bits(role: Role, width: Width, r: u16, s: u32) -> u32
     requires { (s ≤ 1) × (r ≤ 7) }
     ensures { result ≡ bits_of (named role width r s) }

@@ -13,13 +13,13 @@ stops_alike-requires c = c.loop-first.invariant.1.within
 
 pub returns-then-stops_alike : goal.returns-then-stops_alike
 returns-then-stops_alike c =
-    sought_here _ _ _ _ _ _ _ _ (record { halfword = λ i. omega (arith, c.slice_known-1.given i) }) _ _ _ c.loop-first.invariant.1
+    sought_here _ _ _ _ _ _ _ _ (record { halfword = λ i. search rules }) _ _ _ c.loop-first.invariant.1
     c.loop-first-test.true c.if-stops_alike.true c.stops_alike.ensures
 
 pub loop-first-preserved : goal.loop-first-preserved
 loop-first-preserved c = (
   search rules,
-  sought_on _ _ _ _ _ _ _ _ (record { halfword = λ i. omega (arith, c.slice_known-1.given i) }) _ _ _ c.loop-first.invariant.1
+  sought_on _ _ _ _ _ _ _ _ (record { halfword = λ i. search rules }) _ _ _ c.loop-first.invariant.1
       (omega arith) c.if-stops_alike.false c.stops_alike.ensures,
   search rules,
   search rules,
@@ -27,4 +27,4 @@ loop-first-preserved c = (
 
 pub returns : goal.returns
 returns c =
-    sought_end _ _ _ _ _ _ _ _ (record { halfword = λ i. omega (arith, c.slice_known-1.given i) }) _ _ _ c.loop-first.invariant.1 c.loop-first.invariant.0 c.loop-first-test.false
+    sought_end _ _ _ _ _ _ _ _ (record { halfword = λ i. search rules }) _ _ _ c.loop-first.invariant.1 c.loop-first.invariant.0 c.loop-first-test.false

@@ -1,4 +1,5 @@
 -- `stretch::search::search` meets its contract. Assumes nothing.
+use borrow.Author.Rules.{rules}
 use native.Mathlib.Omega.{arith}
 use Rattle.stretch.proofs.Searching.{whole_other, whole_on, whole_found}
 use Rattle.stretch.proofs.search.search.Goals as goal
@@ -14,6 +15,6 @@ latest-first-requires c = whole_on _ _ _ _ _ _ c.run_and_return-whole.ensures c.
 
 pub returns : goal.returns
 returns c =
-    whole_found _ _ _ _ _ _ c.run_and_return-whole.ensures c.requires.1 (record { halfword = λ i. omega (arith, c.slice_known-1.given i) })
+    whole_found _ _ _ _ _ _ c.run_and_return-whole.ensures c.requires.1 (record { halfword = λ i. search rules })
     c.registers_of-own.ensures c.registers_of-stopped.ensures c.number-number.ensures c.requires.0
     (record { least = omega (arith, c.if-number-lt6.false); most = omega (arith, c.if-number-gt11.false) }) c.latest-first.ensures

@@ -1,8 +1,9 @@
 -- `stretch::trying::run_and_return` meets its contract: memory's type says that a halfword has 16 bits. Assumes nothing.
+use borrow.Author.Rules.{rules}
 use native.Mathlib.Omega.{arith}
 use Rattle.stretch.proofs.Searching.{came_to}
 use Rattle.stretch.proofs.trying.run_and_return.Goals as goal
 
 pub returns : goal.returns
 returns c =
-    came_to _ _ _ _ _ _ _ (record { halfword = λ i. omega (arith, c.slice_known-1.given i) }) c.run-ran.ensures c.restore.ensures
+    came_to _ _ _ _ _ _ _ (record { halfword = λ i. search rules }) c.run-ran.ensures c.restore.ensures

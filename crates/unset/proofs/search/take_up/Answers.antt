@@ -1,6 +1,6 @@
 -- `unset::search::take_up` meets its contract: by the callees, since the order is legal; the stack is in order before each arrival.
 -- Assumes nothing.
-use Prim.Native.Nat.{ℕ, ◌/◌}
+use Prim.Native.Nat.{ℕ, ◌/◌, ◌≤◌}
 use mathlib.Core.List.{List}
 use Rattle.orders.specs.declared.order.Order.{Order}
 use Rattle.orders.specs.declared.order.Legality.{Legality}
@@ -16,8 +16,9 @@ use Rattle.unset.specs.Search.{search_of, word_at, reached, reached_all, Stacked
 use Rattle.unset.proofs.Points.{after_small}
 use Rattle.unset.proofs.Registers.{numbered}
 use Rattle.unset.proofs.Sized.{few_cells, few_orders}
-use Rattle.unset.proofs.Taken.{on_stacked, taken_on, taken_either}
+use Rattle.unset.proofs.Taken.{Handing, on_stacked, taken_on, taken_either}
 use Rattle.unset.proofs.search.take_up.Goals as goal
+use Rattle.unset.proofs.search.take_up.Goals.{After-selector_after}
 
 -- the order that was read is legal, by the deck's cells
 legal_there : (deck : List ℕ) (place : ℕ) {o : Order} {found : Legality} {op : Operation} → o ≡ order_at deck (place / 2) → says_legality found ≡ legal_of o → found ≡ Legality.Legal op → legal_of (order_at deck (place / 2)) ≡ gives op
@@ -25,6 +26,19 @@ legal_there deck place e l is = sym (ap legal_of e) ∙ sym l ∙ ap says_legali
 
 legal_read : (o : Order) {found : Legality} {op : Operation} → says_legality found ≡ legal_of o → found ≡ Legality.Legal op → legal_of o ≡ gives op
 legal_read o l is = sym l ∙ ap says_legality is
+
+-- all that is handed on to the next orders
+handing : (c : After-selector_after) → Handing c.args.deck.now c.args.place (search_of c.args.unwritten.now c.args.waiting.now c.args.stack.now c.args.top) c.in-Legal.op c.order_at-o.result c.unwritten_of-bits.result c.selector_after.result
+handing c = record {
+  legal = legal_there c.args.deck.now c.args.place c.order_at-o.ensures c.legal-found.ensures c.in-Legal.is;
+  order = c.order_at-o.ensures;
+  goes = sym c.halts.ensures ∙ c.if-halts.false;
+  bits = c.unwritten_of-bits.ensures ∙ ap (without (word_at (search_of c.args.unwritten.now c.args.waiting.now c.args.stack.now c.args.top) c.args.place)) c.written.ensures;
+  selector = c.selector_after.ensures;
+}
+
+on_small : (c : After-selector_after) → c.selector_after.result ≤ 1
+on_small c = rw c.selector_after.ensures (after_small c.order_at-o.result c.in-Legal.op _ (legal_read c.order_at-o.result c.legal-found.ensures c.in-Legal.is) (omega arith))
 
 pub overflow_cast-orders : goal.overflow_cast-orders
 overflow_cast-orders c = record { fits = omega (arith, few_cells _ c.requires.checked.sized) }
@@ -56,18 +70,12 @@ pub overflow_add-on : goal.overflow_add-on
 overflow_add-on c = record { fits = omega (arith, few_orders _ c.requires.checked, c.requires.inside) }
 
 pub reach-next-requires : goal.reach-next-requires
-reach-next-requires c = (c.requires.stack, few_orders _ c.requires.checked, rw c.selector_after.ensures (after_small c.order_at-o.result c.in-Legal.op _ (legal_read c.order_at-o.result c.legal-found.ensures c.in-Legal.is) (omega arith)))
+reach-next-requires c = (c.requires.stack, few_orders _ c.requires.checked, on_small (goal.at.reach-next-requires c).After-selector_after)
 
 pub reach-requires : goal.reach-requires
 reach-requires c =
     let few = few_orders c.args.deck.now c.requires.checked in (
-      subst (Stacked _) (sym c.reach-next.ensures) (on_stacked _ _ _ _ _ _ _ (record {
-        legal = legal_there c.args.deck.now c.args.place c.order_at-o.ensures c.legal-found.ensures c.in-Legal.is;
-        order = c.order_at-o.ensures;
-        goes = sym c.halts.ensures ∙ c.if-halts.false;
-        bits = c.unwritten_of-bits.ensures ∙ ap (without (word_at (search_of c.args.unwritten.now c.args.waiting.now c.args.stack.now c.args.top) c.args.place)) c.written.ensures;
-        selector = c.selector_after.ensures;
-      }) c.requires.stack few (rw c.selector_after.ensures (after_small c.order_at-o.result c.in-Legal.op _ (legal_read c.order_at-o.result c.legal-found.ensures c.in-Legal.is) (omega arith)))),
+      subst (Stacked _) (sym c.reach-next.ensures) (on_stacked _ _ _ _ _ _ _ (handing (goal.at.reach-requires c).After-selector_after) c.requires.stack few (on_small (goal.at.reach-requires c).After-selector_after)),
       few,
       omega arith,
     )
@@ -75,21 +83,9 @@ reach-requires c =
 pub returns-then-jumps : goal.returns-then-jumps
 returns-then-jumps c =
     subst (TakenUp _ _ (search_of c.args.unwritten.now c.args.waiting.now c.args.stack.now c.args.top)) (sym (c.reach.ensures ∙ ap (reached _ _ _) c.reach-next.ensures))
-    (taken_either _ _ _ _ _ _ _ (record {
-      legal = legal_there c.args.deck.now c.args.place c.order_at-o.ensures c.legal-found.ensures c.in-Legal.is;
-      order = c.order_at-o.ensures;
-      goes = sym c.halts.ensures ∙ c.if-halts.false;
-      bits = c.unwritten_of-bits.ensures ∙ ap (without (word_at (search_of c.args.unwritten.now c.args.waiting.now c.args.stack.now c.args.top) c.args.place)) c.written.ensures;
-      selector = c.selector_after.ensures;
-    }) (sym c.jumps.ensures ∙ c.if-jumps.true))
+    (taken_either _ _ _ _ _ _ _ (handing (goal.at.returns-then-jumps c).After-selector_after) (sym c.jumps.ensures ∙ c.if-jumps.true))
 
 pub returns : goal.returns
 returns c =
     subst (TakenUp _ _ (search_of c.args.unwritten.now c.args.waiting.now c.args.stack.now c.args.top)) (sym c.reach-next.ensures)
-    (taken_on _ _ _ _ _ _ _ (record {
-      legal = legal_there c.args.deck.now c.args.place c.order_at-o.ensures c.legal-found.ensures c.in-Legal.is;
-      order = c.order_at-o.ensures;
-      goes = sym c.halts.ensures ∙ c.if-halts.false;
-      bits = c.unwritten_of-bits.ensures ∙ ap (without (word_at (search_of c.args.unwritten.now c.args.waiting.now c.args.stack.now c.args.top) c.args.place)) c.written.ensures;
-      selector = c.selector_after.ensures;
-    }) (sym c.jumps.ensures ∙ c.if-jumps.false))
+    (taken_on _ _ _ _ _ _ _ (handing (goal.at.returns c).After-selector_after) (sym c.jumps.ensures ∙ c.if-jumps.false))
