@@ -1,6 +1,5 @@
 -- `stretch::trying::run_and_return` meets its contract: memory's type says that a halfword has 16 bits. Assumes nothing.
 use borrow.Author.Rules.{rules}
-use native.Mathlib.Omega.{arith}
 use Rattle.stretch.proofs.Searching.{came_to}
 use Rattle.stretch.proofs.trying.run_and_return.Goals as goal
 
