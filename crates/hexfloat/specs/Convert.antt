@@ -1,18 +1,16 @@
 -- Conversions between floating and fixed point (8.13, 8.14; document 01, 'Orders'). A general word is a signed number over 65,536.
-use Rattle.std.specs.Prelude.{ℕ, ◌+◌, ◌-◌, ◌/◌, ◌%◌, ◌^◌, cond, ltb, eqb}
+use Rattle.std.specs.Prelude.{Option, Some, None, ℕ, ◌+◌, ◌-◌, ◌/◌, ◌%◌, ◌^◌, cond, ltb, eqb}
 use Rattle.hexfloat.specs.declared.word.Parts.{Parts}
 use Rattle.hexfloat.specs.declared.word.Coded.{Coded}
-use Rattle.hexfloat.specs.declared.convert.Fixed.{Fixed}
-use Rattle.hexfloat.specs.declared.convert.Fixed.TheVariants.{Word, Overflow}
 use Rattle.hexfloat.specs.Answer.{Answer, gives, stops}
 use Rattle.hexfloat.specs.Word.{short_parts, short_word, true_zero, magnitude}
 use Rattle.hexfloat.specs.Normal.{characteristic_of, fraction_of}
 use Rattle.hexfloat.specs.Condition.{condition_of, signed_condition}
 
 -- what the code's answer says: convert overflow is 11
-abbrev pub says_fixed : Fixed → Answer Coded
-says_fixed (Word c) = gives c
-says_fixed Overflow = stops 11
+abbrev pub says_fixed : Option Coded → Answer Coded
+says_fixed (Some c) = gives c
+says_fixed None = stops 11
 
 -- the exact magnitude of a short number times 65,536, cut toward zero: a magnitude stands times 16^78, and 16^78 / 65,536 is 16^74
 unfoldable pub fixed_magnitude : Parts → ℕ

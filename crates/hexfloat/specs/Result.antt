@@ -1,20 +1,24 @@
 -- Results of arithmetic: an exact ratio of whole numbers as a normalised number of d digits, within the limits of the characteristic (8.3, 8.8;
 -- document 01, 'Divide').
-use Rattle.std.specs.Prelude.{ℕ, ◌+◌, ◌*◌, ◌%◌, ◌^◌, Bool, true, false, cond, ltb, leb, eqb}
+use Rattle.std.specs.Prelude.{Result, Ok, Err, ℕ, ◌+◌, ◌*◌, ◌%◌, ◌^◌, Bool, true, false, cond, ltb, leb, eqb}
 use Rattle.hexfloat.specs.declared.word.Parts.{Parts}
 use Rattle.hexfloat.specs.declared.word.Words.{Words}
-use Rattle.hexfloat.specs.declared.result.Result.{Result}
-use Rattle.hexfloat.specs.declared.result.Result.TheVariants.{Number, ZeroDivisor, Overflow, Underflow}
+use Rattle.hexfloat.specs.declared.result.Fault.{Fault}
+use Rattle.hexfloat.specs.declared.result.Fault.TheVariants.{ZeroDivisor, Overflow, Underflow}
 use Rattle.hexfloat.specs.Answer.{Answer, gives, stops}
 use Rattle.hexfloat.specs.Word.{true_zero}
 use Rattle.hexfloat.specs.Normal.{characteristic_of, fraction_of}
 
--- what the code's answer says: zero divisor is 8, exponent overflow 9, exponent underflow 10
-abbrev pub says_result : Result → Answer Words
-says_result (Number a) = gives a
-says_result ZeroDivisor = stops 8
-says_result Overflow = stops 9
-says_result Underflow = stops 10
+-- the number of a fault: zero divisor is 8, exponent overflow 9, exponent underflow 10
+abbrev pub fault_number : Fault → ℕ
+fault_number ZeroDivisor = 8
+fault_number Overflow = 9
+fault_number Underflow = 10
+
+-- what the code's answer says
+abbrev pub says_result : Result Words Fault → Answer Words
+says_result (Ok a) = gives a
+says_result (Err f) = stops (fault_number f)
 
 -- 8.15, 8.16, 8.24, 8.25: the sign of a quotient or a product is determined by the rules of algebra
 abbrev pub sign_by_algebra : Parts → Parts → ℕ

@@ -10,7 +10,7 @@ ghost use Rattle.hexfloat.specs.Operand.{Operands};
 ghost use Rattle.hexfloat.specs.Result.{says_result};
 ghost use Rattle.hexfloat.specs.Word.{digits_of, words_of, inverted};
 
-use crate::result::Result;
+use crate::result::Fault;
 use crate::signed::Signed;
 use crate::word::{Parts, Width, Words};
 
@@ -23,7 +23,7 @@ pub enum Sense {
     Minus,
 }
 
-pub fn sum(sense: Sense, width: Width, mask: bool, a: Words, b: Words) -> Result
+pub fn sum(sense: Sense, width: Width, mask: bool, a: Words, b: Words) -> Result<Words, Fault>
     ensures { says_result result ≡ summed_words sense width mask a b }
 {
     let x = crate::word::parts_of(width, a);
@@ -52,7 +52,7 @@ fn invert(p: Parts) -> Parts
     }
 }
 
-fn add_parts(width: Width, mask: bool, a: Parts, b: Parts) -> Result
+fn add_parts(width: Width, mask: bool, a: Parts, b: Parts) -> Result<Words, Fault>
     requires { Operands (digits_of width) a b }
     ensures { says_result result ≡ mapped (words_of width) (sum (digits_of width) mask a b) }
 {
@@ -79,14 +79,14 @@ fn as_input(p: Parts) -> Parts
 }
 
 // An intermediate sum at the characteristic c, with at most one digit of carry.
-fn normalise_sum(width: Width, mask: bool, c: u32, s: Signed) -> Result
+fn normalise_sum(width: Width, mask: bool, c: u32, s: Signed) -> Result<Words, Fault>
     requires { (c ≤ 127) × (s.sign ≤ 1) × (s.magnitude < 16 ^ 16) }
     ensures { says_result result ≡ mapped (words_of width) (result_of_sum (digits_of width) mask c s) }
 {
     let sign = s.sign;
     let m = s.magnitude;
     if m == 0 {
-        return Result::Number(Words { high: 0, low: 0 });
+        return Ok(Words { high: 0, low: 0 });
     }
     let d = crate::word::digits_of(width);
     crate::result::normalised_result(width, mask, sign, c, d + GUARD_DIGITS, m)

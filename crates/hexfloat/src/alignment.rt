@@ -25,14 +25,11 @@ pub fn prealign(guards: u32, x: Parts, y: Parts) -> Prealigned
     }
 }
 
+#[tactic(auto, unfolding(crate::specs::Align::common_characteristic))]
 fn common_characteristic(x: Parts, y: Parts) -> u32
     ensures { result ≡ common_characteristic x y }
 {
-    if x.characteristic < y.characteristic {
-        y.characteristic
-    } else {
-        x.characteristic
-    }
+    x.characteristic.max(y.characteristic)
 }
 
 // The fraction with its guard digits, moved right to the characteristic c. What is moved by 16

@@ -5,32 +5,26 @@ ghost use Rattle.hexfloat.specs.Convert.{says_fixed, to_fixed, to_float, float_p
 
 use crate::word::{Coded, Parts};
 
-#[derive(Clone, Copy)]
-pub enum Fixed {
-    Word(Coded),
-    Overflow,
-}
-
-// CVFX.
-pub fn to_fixed(w: u32) -> Fixed
+// CVFX; none where the value is out of the range of a word, which is convert overflow.
+pub fn to_fixed(w: u32) -> Option<Coded>
     ensures { says_fixed result ≡ to_fixed w }
 {
     let p = crate::word::short_parts(w);
     if p.fraction == 0 {
-        return Fixed::Word(Coded {
+        return Some(Coded {
             word: 0,
             condition: 0,
         });
     }
     if 73 < p.characteristic {
-        return Fixed::Overflow;
+        return None;
     }
     let m = integer(p);
     if 0x8000_0000 + p.sign as u64 <= m {
-        return Fixed::Overflow;
+        return None;
     }
     let word = signed_word(p.sign, m);
-    Fixed::Word(Coded {
+    Some(Coded {
         word,
         condition: crate::condition_code::signed_condition(0x8000, word / 0x1_0000),
     })
@@ -55,11 +49,8 @@ fn signed_word(sign: u32, m: u64) -> u32
     requires { m ≤ 2 ^ 31 }
     ensures { result ≡ signed_word sign m }
 {
-    if sign == 0 {
-        m as u32
-    } else {
-        ((0x1_0000_0000 - m) % 0x1_0000_0000) as u32
-    }
+    let word = m as u32;
+    if sign == 0 { word } else { word.wrapping_neg() }
 }
 
 // CVFL.
@@ -84,7 +75,7 @@ fn float_parts(w: u32) -> Parts
             fraction: 0,
         };
     }
-    let shift = u32::leading_zeros(m) / 4;
+    let shift = m.leading_zeros() / 4;
     Parts {
         sign: w / 0x8000_0000,
         characteristic: 68 - shift,
@@ -95,9 +86,5 @@ fn float_parts(w: u32) -> Parts
 fn magnitude(w: u32) -> u32
     ensures { result ≡ word_magnitude w }
 {
-    if w < 0x8000_0000 {
-        w
-    } else {
-        0xFFFF_FFFF - w + 1
-    }
+    if w < 0x8000_0000 { w } else { w.wrapping_neg() }
 }

@@ -8,19 +8,19 @@ ghost use Rattle.hexfloat.specs.Divide.{quotient_words};
 ghost use Rattle.hexfloat.specs.Operand.{Dividends, Turning, Correcting, turn_of, lead_of};
 ghost use Rattle.hexfloat.specs.Result.{says_result};
 
-use crate::result::Result;
+use crate::result::Fault;
 use crate::word::{Width, Words};
 
-pub fn divide(width: Width, mask: bool, a: Words, b: Words) -> Result
+pub fn divide(width: Width, mask: bool, a: Words, b: Words) -> Result<Words, Fault>
     ensures { says_result result ≡ quotient_words width mask a b }
 {
     let x = crate::word::parts_of(width, a);
     let y = crate::word::parts_of(width, b);
     if y.fraction == 0 {
-        return Result::ZeroDivisor;
+        return Err(Fault::ZeroDivisor);
     }
     if x.fraction == 0 {
-        return Result::Number(Words { high: 0, low: 0 });
+        return Ok(Words { high: 0, low: 0 });
     }
     let d = crate::word::digits_of(width);
     // y first: x may just have been written by the order before
@@ -36,7 +36,7 @@ pub fn divide(width: Width, mask: bool, a: Words, b: Words) -> Result
 fn leads(a: u64, b: u64) -> u32
     ensures { result ≡ lead_of a b }
 {
-    if a < b { 0 } else { 1 }
+    (b <= a) as u32
 }
 
 // a * 16^n / b, cut toward zero.

@@ -11,7 +11,7 @@ ghost use Rattle.hexfloat.specs.Operand.{Factors};
 ghost use Rattle.hexfloat.specs.Result.{says_result};
 ghost use Rattle.hexfloat.specs.Word.{digits_of, words_of};
 
-use crate::result::Result;
+use crate::result::Fault;
 use crate::word::{Parts, Width, Words};
 
 // The characteristic of a product is the sum of its factors' less 64, where the point stands before
@@ -21,16 +21,22 @@ const SHORT_EXCESS: u32 = 64 + 12;
 
 const LONG_EXCESS: u32 = 64 + 16 + 2 * 14;
 
-pub fn multiply(operands: Width, width: Width, mask: bool, a: Words, b: Words) -> Result
+pub fn multiply(
+    operands: Width,
+    width: Width,
+    mask: bool,
+    a: Words,
+    b: Words,
+) -> Result<Words, Fault>
     ensures { says_result result ≡ product_words operands width mask a b }
 {
     let x = crate::word::parts_of(operands, a);
     let y = crate::word::parts_of(operands, b);
     if x.fraction == 0 {
-        return Result::Number(Words { high: 0, low: 0 });
+        return Ok(Words { high: 0, low: 0 });
     }
     if y.fraction == 0 {
-        return Result::Number(Words { high: 0, low: 0 });
+        return Ok(Words { high: 0, low: 0 });
     }
     match operands {
         Width::Short => multiply_short(width, mask, x, y),
@@ -38,7 +44,7 @@ pub fn multiply(operands: Width, width: Width, mask: bool, a: Words, b: Words) -
     }
 }
 
-fn multiply_short(width: Width, mask: bool, x: Parts, y: Parts) -> Result
+fn multiply_short(width: Width, mask: bool, x: Parts, y: Parts) -> Result<Words, Fault>
     requires { Factors 6 x y }
     ensures { says_result result ≡ mapped (words_of width) (product 6 (digits_of width) mask x y) }
 {
@@ -48,7 +54,7 @@ fn multiply_short(width: Width, mask: bool, x: Parts, y: Parts) -> Result
     crate::result::normalised_result(width, mask, sign, place, SHORT_EXCESS, p)
 }
 
-fn multiply_long(width: Width, mask: bool, x: Parts, y: Parts) -> Result
+fn multiply_long(width: Width, mask: bool, x: Parts, y: Parts) -> Result<Words, Fault>
     requires { Factors 14 x y }
     ensures { says_result result ≡ mapped (words_of width) (product 14 (digits_of width) mask x y) }
 {

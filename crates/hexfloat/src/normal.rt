@@ -18,7 +18,7 @@ pub fn normalise(d: u32, p: Parts) -> Normal
     ensures { result ≡ normalised d p }
 {
     let f = p.fraction;
-    let shift = u64::leading_zeros(f) / 4 - (16 - d);
+    let shift = f.leading_zeros() / 4 - (16 - d);
     Normal {
         place: p.characteristic + 14 - shift,
         fraction: f << (4 * shift),

@@ -8,9 +8,9 @@ ghost use Rattle.hexfloat.specs.Word.{digits_of, words_of};
 
 use crate::word::{Parts, Width, Words};
 
-#[derive(Clone, Copy)]
-pub enum Result {
-    Number(Words),
+// Why there is no result.
+#[derive(Clone, Copy, PartialEq, Eq)]
+pub enum Fault {
     ZeroDivisor,
     Overflow,
     Underflow,
@@ -18,40 +18,54 @@ pub enum Result {
 
 // The result of any ratio that has this fraction and the characteristic up - down, a difference of
 // two places so that it can be below 0.
-pub fn limited(width: Width, mask: bool, sign: u32, up: u32, down: u32, fraction: u64) -> Result
+pub fn limited(
+    width: Width,
+    mask: bool,
+    sign: u32,
+    up: u32,
+    down: u32,
+    fraction: u64,
+) -> Result<Words, Fault>
     requires sign_bound { sign ≤ 1 }
     requires fraction_bound { fraction < 16 ^ digits_of width }
     ensures { (a b : ℕ) → 0 < b → IsPlaced (digits_of width) a b up down fraction → says_result result ≡ mapped (words_of width) (result_of (digits_of width) mask sign a b) }
 {
     if up < down {
         return if mask {
-            Result::Underflow
+            Err(Fault::Underflow)
         } else {
-            Result::Number(Words { high: 0, low: 0 })
+            Ok(Words { high: 0, low: 0 })
         };
     }
     let characteristic = up - down;
     if 127 < characteristic {
-        return Result::Overflow;
+        return Err(Fault::Overflow);
     }
     let p = Parts {
         sign,
         characteristic,
         fraction,
     };
-    Result::Number(crate::word::words_of(width, p))
+    Ok(crate::word::words_of(width, p))
 }
 
 // The same of a ratio whose first digits are those of m, at most 16 of them, the last one at the
 // place up: m is moved left by its leading zero digits, and cut.
-pub fn normalised_result(width: Width, mask: bool, sign: u32, up: u32, down: u32, m: u64) -> Result
+pub fn normalised_result(
+    width: Width,
+    mask: bool,
+    sign: u32,
+    up: u32,
+    down: u32,
+    m: u64,
+) -> Result<Words, Fault>
     requires sign_bound { sign ≤ 1 }
     requires m_nonzero { 0 < m }
     requires up_bound { up < 2 ^ 16 }
     ensures { (a b : ℕ) → 0 < b → IsPlaced (digits_of width) a b (up + digits m) down (first_digits (digits_of width) m) → says_result result ≡ mapped (words_of width) (result_of (digits_of width) mask sign a b) }
 {
     let d = crate::word::digits_of(width);
-    let zeros = u64::leading_zeros(m) / 4;
+    let zeros = m.leading_zeros() / 4;
     let fraction = (m << (4 * zeros)) >> (4 * (16 - d));
     limited(width, mask, sign, up + 16 - zeros, down, fraction)
 }

@@ -9,16 +9,11 @@ pub struct Signed {
     pub magnitude: u64,
 }
 
-fn above_zero(sign: u32, m: u64) -> u64
-    ensures { result ≡ above sign m }
+// What a number is above zero, and what it is below it.
+fn sides(sign: u32, m: u64) -> (u64, u64)
+    ensures { (result.0 ≡ above sign m) × (result.1 ≡ below sign m) }
 {
-    if sign == 0 { m } else { 0 }
-}
-
-fn below_zero(sign: u32, m: u64) -> u64
-    ensures { result ≡ below sign m }
-{
-    if sign == 0 { 0 } else { m }
+    if sign == 0 { (m, 0) } else { (0, m) }
 }
 
 // What is p above zero and n below it.
@@ -42,7 +37,7 @@ pub fn signed_sum(s: u32, a: u64, t: u32, b: u64) -> Signed
     requires { (a < 2 ^ 63) × (b < 2 ^ 63) }
     ensures { result ≡ signed (above s a + above t b) (below s a + below t b) }
 {
-    let p = above_zero(s, a) + above_zero(t, b);
-    let n = below_zero(s, a) + below_zero(t, b);
-    balance(p, n)
+    let (above, below) = sides(s, a);
+    let (more_above, more_below) = sides(t, b);
+    balance(above + more_above, below + more_below)
 }

@@ -1,5 +1,5 @@
 -- The orders and check 5 (document 01, 'Orders', 'Lent' and row 5 of the causes).
-use Rattle.std.specs.Prelude.{ℕ, ◌+◌, ◌*◌, List, [], ◌∷◌, Bool, true, false, cond, ◌&&◌, get_or, eqb, leb}
+use Rattle.std.specs.Prelude.{Option, Some, None, ℕ, ◌+◌, ◌*◌, List, [], ◌∷◌, Bool, true, false, cond, ◌&&◌, get_or, eqb, leb}
 use Rattle.hexfloat.specs.declared.addition.Sense.{Sense}
 use Rattle.hexfloat.specs.declared.word.Width.{Width}
 use Rattle.hexfloat.specs.Answer.{Answer, gives, stops, provided, and_then}
@@ -7,7 +7,6 @@ use Rattle.orders.specs.declared.order.Order.{Order}
 use Rattle.orders.specs.declared.order.Operation.{Operation}
 use Rattle.orders.specs.declared.order.Verb.{Verb}
 use Rattle.orders.specs.declared.order.Place.{Place}
-use Rattle.orders.specs.declared.order.Legality.{Legality}
 
 -- four cells an order: code, r1, r2, at
 abbrev pub order_at : List ℕ → ℕ → Order
@@ -97,9 +96,9 @@ unfoldable pub legal_of : Order → Answer Operation
 legal_of o = and_then (operation_of o.code) (λ op. provided (within_limits op o) 5 (gives op))
 
 -- what the code's answer says: an order that doesn't pass is a 5
-abbrev pub says_legality : Legality → Answer Operation
-says_legality (Legality.Legal op) = gives op
-says_legality Legality.Illegal = stops 5
+abbrev pub says_legality : Option Operation → Answer Operation
+says_legality (Some op) = gives op
+says_legality None = stops 5
 
 -- two halfwords for a short operand, four for a long one
 abbrev pub halfwords : Width → ℕ

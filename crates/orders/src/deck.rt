@@ -7,10 +7,7 @@ use crate::order::Order;
 fn cell_at(deck: &[u16], i: usize) -> u16
     ensures { result ≡ get_or deck.now i 0 }
 {
-    if deck.len() <= i {
-        return 0;
-    }
-    deck[i]
+    deck.get(i).copied().unwrap_or(0)
 }
 
 // Order p, for callers that have made no check: a cell that is not there is 0.

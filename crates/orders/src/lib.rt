@@ -14,6 +14,6 @@ pub use addressing::address;
 pub use deck::order_at;
 pub use general::{general_at, general_cell};
 pub use order::{
-    Legality, Operation, Order, Place, Verb, halts, jumps, legal, look_up, selects, span, stored,
+    Operation, Order, Place, Verb, halts, jumps, legal, look_up, selects, span, stored,
 };
 pub use role::{Role, role_read, role_written};

@@ -1,6 +1,5 @@
 // The orders: document 01's table, and check 5.
 ghost use Rattle.std.specs.Prelude.{◌≡◌};
-ghost use Rattle.hexfloat.specs.Answer.{gives};
 ghost use Rattle.orders.specs.Order.{row, on_float, on_general, on_storage, on_cells, operation_of, legal_of, says_legality, span_of, stored_of, halfwords, is_halt, is_jump, is_select};
 
 use hexfloat::{Sense, Width};
@@ -55,55 +54,49 @@ pub struct Operation {
     pub at: u16,
 }
 
-#[derive(Clone, Copy)]
-pub enum Legality {
-    Legal(Operation),
-    Illegal,
-}
-
-fn row(verb: Verb, width: Width, place: Place, r1: u16, r2: u16, at: u16) -> Legality
-    ensures { says_legality result ≡ gives (row verb width place r1 r2 at) }
+fn row(verb: Verb, width: Width, place: Place, r1: u16, r2: u16, at: u16) -> Operation
+    ensures { result ≡ row verb width place r1 r2 at }
 {
-    Legality::Legal(Operation {
+    Operation {
         verb,
         width,
         place,
         r1,
         r2,
         at,
-    })
+    }
 }
 
-fn on_float(verb: Verb, width: Width) -> Legality
-    ensures { says_legality result ≡ gives (on_float verb width) }
+fn on_float(verb: Verb, width: Width) -> Operation
+    ensures { result ≡ on_float verb width }
 {
     row(verb, width, Place::FloatRegister, 7, 7, 0)
 }
 
-fn on_general(verb: Verb, width: Width) -> Legality
-    ensures { says_legality result ≡ gives (on_general verb width) }
+fn on_general(verb: Verb, width: Width) -> Operation
+    ensures { result ≡ on_general verb width }
 {
     row(verb, width, Place::GeneralRegister, 7, 7, 0)
 }
 
-fn on_storage(verb: Verb, width: Width) -> Legality
-    ensures { says_legality result ≡ gives (on_storage verb width) }
+fn on_storage(verb: Verb, width: Width) -> Operation
+    ensures { result ≡ on_storage verb width }
 {
     row(verb, width, Place::Storage, 7, 7, 65535)
 }
 
-fn on_cells(verb: Verb, r1: u16, r2: u16, at: u16) -> Legality
-    ensures { says_legality result ≡ gives (on_cells verb r1 r2 at) }
+fn on_cells(verb: Verb, r1: u16, r2: u16, at: u16) -> Operation
+    ensures { result ≡ on_cells verb r1 r2 at }
 {
     row(verb, Width::Short, Place::Nowhere, r1, r2, at)
 }
 
-// The row of a code; `Illegal` where the code is unknown.
+// The row of a code; none where the code is unknown.
 #[tactic(auto, unfolding(crate::specs::Order::operation_of, crate::specs::Order::row_among))]
-pub fn look_up(code: u16) -> Legality
+pub fn look_up(code: u16) -> Option<Operation>
     ensures { says_legality result ≡ operation_of code }
 {
-    match code {
+    let operation = match code {
         1 => on_float(Verb::Load, Width::Short), // LER
         2 => on_storage(Verb::Load, Width::Short), // LE
         3 => on_storage(Verb::Load, Width::Long), // LED
@@ -139,31 +132,27 @@ pub fn look_up(code: u16) -> Legality
         33 => on_float(Verb::Multiply, Width::Long), // MEDR
         34 => on_storage(Verb::Multiply, Width::Long), // MED
         35 => on_cells(Verb::Select, 0, 1, 0), // SET
-        _ => Legality::Illegal,
-    }
+        _ => return None,
+    };
+    Some(operation)
 }
 
 // Check 5: the operation, where the code is known and every cell is within its limit.
 #[tactic(auto, unfolding(crate::specs::Order::legal_of, crate::specs::Order::within_limits))]
-pub fn legal(o: Order) -> Legality
+pub fn legal(o: Order) -> Option<Operation>
     ensures { says_legality result ≡ legal_of o }
 {
-    let found = look_up(o.code);
-    match found {
-        Legality::Illegal => Legality::Illegal,
-        Legality::Legal(op) => {
-            if op.r1 < o.r1 {
-                return Legality::Illegal;
-            }
-            if op.r2 < o.r2 {
-                return Legality::Illegal;
-            }
-            if op.at < o.at {
-                return Legality::Illegal;
-            }
-            Legality::Legal(op)
-        }
+    let op = look_up(o.code)?;
+    if op.r1 < o.r1 {
+        return None;
     }
+    if op.r2 < o.r2 {
+        return None;
+    }
+    if op.at < o.at {
+        return None;
+    }
+    Some(op)
 }
 
 fn operand_halfwords(width: Width) -> u32
@@ -179,13 +168,9 @@ fn operand_halfwords(width: Width) -> u32
 pub fn span(op: Operation) -> u32
     ensures { result ≡ span_of op }
 {
-    let place = op.place;
-    let width = op.width;
-    match place {
-        Place::Nowhere => 0,
-        Place::FloatRegister => 0,
-        Place::GeneralRegister => 0,
-        Place::Storage => operand_halfwords(width),
+    match op.place {
+        Place::Nowhere | Place::FloatRegister | Place::GeneralRegister => 0,
+        Place::Storage => operand_halfwords(op.width),
     }
 }
 
@@ -193,25 +178,10 @@ pub fn span(op: Operation) -> u32
 pub fn stored(op: Operation) -> u32
     ensures { result ≡ stored_of op }
 {
-    let verb = op.verb;
-    let width = op.width;
-    match verb {
-        Verb::Load => 0,
-        Verb::Complement => 0,
-        Verb::Compare => 0,
-        Verb::Fix => 0,
-        Verb::Float => 0,
-        Verb::Divide => 0,
-        Verb::Store => operand_halfwords(width),
-        Verb::LoadGeneral => 0,
+    match op.verb {
+        Verb::Store => operand_halfwords(op.width),
         Verb::StoreGeneral => 2,
-        Verb::SetMask => 0,
-        Verb::Jump => 0,
-        Verb::CountDown => 0,
-        Verb::Halt => 0,
-        Verb::Sum(_) => 0,
-        Verb::Multiply => 0,
-        Verb::Select => 0,
+        _ => 0,
     }
 }
 
@@ -219,70 +189,19 @@ pub fn stored(op: Operation) -> u32
 pub fn halts(verb: Verb) -> bool
     ensures { result ≡ is_halt verb }
 {
-    match verb {
-        Verb::Load => false,
-        Verb::Complement => false,
-        Verb::Compare => false,
-        Verb::Fix => false,
-        Verb::Float => false,
-        Verb::Divide => false,
-        Verb::Store => false,
-        Verb::LoadGeneral => false,
-        Verb::StoreGeneral => false,
-        Verb::SetMask => false,
-        Verb::Jump => false,
-        Verb::CountDown => false,
-        Verb::Halt => true,
-        Verb::Sum(_) => false,
-        Verb::Multiply => false,
-        Verb::Select => false,
-    }
+    matches!(verb, Verb::Halt)
 }
 
 // JC and JN.
 pub fn jumps(verb: Verb) -> bool
     ensures { result ≡ is_jump verb }
 {
-    match verb {
-        Verb::Load => false,
-        Verb::Complement => false,
-        Verb::Compare => false,
-        Verb::Fix => false,
-        Verb::Float => false,
-        Verb::Divide => false,
-        Verb::Store => false,
-        Verb::LoadGeneral => false,
-        Verb::StoreGeneral => false,
-        Verb::SetMask => false,
-        Verb::Jump => true,
-        Verb::CountDown => true,
-        Verb::Halt => false,
-        Verb::Sum(_) => false,
-        Verb::Multiply => false,
-        Verb::Select => false,
-    }
+    matches!(verb, Verb::Jump | Verb::CountDown)
 }
 
 // SET.
 pub fn selects(verb: Verb) -> bool
     ensures { result ≡ is_select verb }
 {
-    match verb {
-        Verb::Load => false,
-        Verb::Complement => false,
-        Verb::Compare => false,
-        Verb::Fix => false,
-        Verb::Float => false,
-        Verb::Divide => false,
-        Verb::Store => false,
-        Verb::LoadGeneral => false,
-        Verb::StoreGeneral => false,
-        Verb::SetMask => false,
-        Verb::Jump => false,
-        Verb::CountDown => false,
-        Verb::Halt => false,
-        Verb::Sum(_) => false,
-        Verb::Multiply => false,
-        Verb::Select => true,
-    }
+    matches!(verb, Verb::Select)
 }

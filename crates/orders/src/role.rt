@@ -23,22 +23,10 @@ pub fn role_read(verb: Verb) -> Role
     ensures { result ≡ role_read verb }
 {
     match verb {
-        Verb::Load => Role::Nothing,
-        Verb::Complement => Role::Nothing,
-        Verb::Compare => Role::Operand,
-        Verb::Fix => Role::Nothing,
-        Verb::Float => Role::Nothing,
-        Verb::Divide => Role::Operand,
-        Verb::Store => Role::Operand,
-        Verb::LoadGeneral => Role::Nothing,
+        Verb::Compare | Verb::Divide | Verb::Store | Verb::Sum(_) | Verb::Multiply => Role::Operand,
         Verb::StoreGeneral => Role::General,
-        Verb::SetMask => Role::Nothing,
-        Verb::Jump => Role::Nothing,
         Verb::CountDown => Role::General, // it reads first, then writes
-        Verb::Halt => Role::Nothing,
-        Verb::Sum(_) => Role::Operand,
-        Verb::Multiply => Role::Operand,
-        Verb::Select => Role::Nothing,
+        _ => Role::Nothing,
     }
 }
 
@@ -47,21 +35,10 @@ pub fn role_written(verb: Verb) -> Role
     ensures { result ≡ role_written verb }
 {
     match verb {
-        Verb::Load => Role::Operand,
-        Verb::Complement => Role::Operand,
-        Verb::Compare => Role::Nothing,
-        Verb::Fix => Role::General,
-        Verb::Float => Role::Float,
-        Verb::Divide => Role::Operand,
-        Verb::Store => Role::Nothing,
-        Verb::LoadGeneral => Role::General,
-        Verb::StoreGeneral => Role::Nothing,
-        Verb::SetMask => Role::Nothing,
-        Verb::Jump => Role::Nothing,
-        Verb::CountDown => Role::General,
-        Verb::Halt => Role::Nothing,
-        Verb::Sum(_) => Role::Operand,
+        Verb::Load | Verb::Complement | Verb::Divide | Verb::Sum(_) => Role::Operand,
         Verb::Multiply => Role::Product,
-        Verb::Select => Role::Nothing,
+        Verb::Float => Role::Float,
+        Verb::Fix | Verb::LoadGeneral | Verb::CountDown => Role::General,
+        _ => Role::Nothing,
     }
 }

@@ -3,22 +3,18 @@ use native.Mathlib.Omega.{arith}
 use Rattle.hexfloat.proofs.Signs.{parts_whole}
 use Rattle.hexfloat.proofs.signed.signed_sum.Goals as goal
 
-pub overflow_add-p : goal.overflow_add-p
-overflow_add-p c =
+pub overflow_add-above : goal.overflow_add-above
+overflow_add-above c =
     let a = c.args in
-    record { fits = omega (arith, c.above_zero.ensures, c.above_zero-2.ensures, parts_whole a.s a.a, parts_whole a.t a.b, c.requires) }
+    record { fits = omega (arith, c.sides-above.ensures, c.sides-more_above.ensures, parts_whole a.s a.a, parts_whole a.t a.b, c.requires) }
 
-pub overflow_add-n : goal.overflow_add-n
-overflow_add-n c =
+pub overflow_add-below : goal.overflow_add-below
+overflow_add-below c =
     let a = c.args in
-    record { fits = omega (arith, c.below_zero.ensures, c.below_zero-2.ensures, parts_whole a.s a.a, parts_whole a.t a.b, c.requires) }
+    record { fits = omega (arith, c.sides-above.ensures, c.sides-more_above.ensures, parts_whole a.s a.a, parts_whole a.t a.b, c.requires) }
 
 pub returns : goal.returns
 returns c =
-    rw (
-      c.balance.ensures,
-      c.below_zero-2.ensures,
-      c.below_zero.ensures,
-      c.above_zero-2.ensures,
-      c.above_zero.ensures,
-    )
+    let first = c.sides-above.ensures in
+    let second = c.sides-more_above.ensures in
+    rw (c.balance.ensures, second.1, first.1, second.0, first.0)
