@@ -1,4 +1,5 @@
 -- A call of one seat leaves the other's registers and status.
+use Rattle.std.specs.Prelude.{Option, Some, None}
 use Prim.Native.Nat.{ℕ, zero, suc, ◌+◌, ◌-◌, ◌≤◌}
 use mathlib.Core.Path.{◌≡◌, refl, sym, ap, ◌∙◌}
 use mathlib.Core.List.{List}
@@ -12,7 +13,6 @@ use Rattle.protection.specs.Form.{ProtectList}
 use Rattle.machine.specs.declared.journal.Record.{Record}
 use Rattle.machine.specs.declared.state.Registers.{Registers}
 use Rattle.machine.specs.declared.state.State.{State}
-use Rattle.machine.specs.declared.undoing.Whose.{Whose}
 use Rattle.machine.specs.declared.verdict.Effect.{Effect}
 use Rattle.machine.specs.Back.{returning, last_seat, backed_by, backed}
 use Rattle.machine.specs.Change.{registers_after}
@@ -86,18 +86,18 @@ unfolding seat_in
 one_bit q = omega arith
 
 -- a back step into the seat that its record names
-back_leaves : (p : ProtectList) (k : ℕ) (x : Machine) → (backed p x).whose ≡ Whose.Seat k → OtherSeat k x (backed p x).after
+back_leaves : (p : ProtectList) (k : ℕ) (x : Machine) → (backed p x).whose ≡ Some k → OtherSeat k x (backed p x).after
 unfolding backed
 back_leaves p k x h j hj not = cases (returning p x.state (length x.memory) x.journal) h
   where
     w : ℕ
     w = last_seat x.state x.journal
 
-    named : Whose → ℕ
-    named Whose.Nobody = 2
-    named (Whose.Seat n) = n
+    named : Option ℕ → ℕ
+    named None = 2
+    named (Some n) = n
 
-    cases : (v : Answer Effect) → (backed_by v w x).whose ≡ Whose.Seat k → registers_of j (backed_by v w x).after.state ≡ registers_of j x.state
+    cases : (v : Answer Effect) → (backed_by v w x).whose ≡ Some k → registers_of j (backed_by v w x).after.state ≡ registers_of j x.state
     cases (stops n) e = refl
     cases (gives a) e =
         let same : w ≡ k = ap named e in

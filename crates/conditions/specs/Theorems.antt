@@ -1,6 +1,6 @@
 -- What is proved of the calls, in the words of conditions 1 and 3 (document 01, 'Journal and back steps'), for every deck d, protect list p in any form,
 -- machine x and list of calls. The proofs are in proofs/Theorems.antt.
-use Rattle.std.specs.Prelude.{ℕ, ◌+◌, ◌*◌, ◌/◌, ◌<◌, ◌≤◌, ◌≡◌, true, length, get_or, take, drop, replicate}
+use Rattle.std.specs.Prelude.{Some, None, ℕ, ◌+◌, ◌*◌, ◌/◌, ◌<◌, ◌≤◌, ◌≡◌, true, length, get_or, take, drop, replicate}
 use mathlib.Core.List.{List, [], ◌∷◌, ◌++◌, Memᴰ}
 use Rattle.hexfloat.specs.Answer.{gives}
 use Rattle.hexfloat.specs.Convert.{fixed_coded}
@@ -15,7 +15,6 @@ use Rattle.protection.specs.Bits.{bit_form, bitwise}
 use Rattle.protection.specs.Bytes.{byte_form, bytewise, unpacked}
 use Rattle.protection.specs.Theorems.{Alike}
 use Rattle.machine.specs.declared.state.Registers.{Registers}
-use Rattle.machine.specs.declared.undoing.Whose.{Whose}
 use Rattle.machine.specs.declared.verdict.Effect.{Effect}
 use Rattle.machine.specs.Back.{undone, backed}
 use Rattle.machine.specs.Decide.{pointer_of}
@@ -73,12 +72,12 @@ seats [] = []
 seats (e ∷ es) = seats es ++ e.seat ∷ []
 
 abbrev pub answer : ℕ → ℕ → Reply
-answer taken stop = record { taken = taken; stop = stop; whose = Whose.Nobody }
+answer taken stop = record { taken = taken; stop = stop; whose = None }
 
 -- the answers of back steps that take these back, the latest first: whose each of them was
 unfoldable pub undoings : List Earlier → List Reply
 undoings [] = []
-undoings (e ∷ es) = record { taken = 0; stop = 0; whose = Whose.Seat e.seat } ∷ undoings es
+undoings (e ∷ es) = record { taken = 0; stop = 0; whose = Some e.seat } ∷ undoings es
 
 abbrev pub seats_after : List ℕ → ProtectList → List Call → Machine → List ℕ
 seats_after d p cs x = seats (standing_after d p cs x)
@@ -279,7 +278,7 @@ OtherSeat k x y = (j : ℕ) → j ≤ 1 → (j ≡ k → ⊥) → registers_of j
 pub record LeavesOther (d : List ℕ) (p : ProtectList) (k : ℕ) (x : Machine) : Type 0 where
   pub step : OtherSeat k x (stepped d p k x).after
   pub run : (limit : ℕ) → OtherSeat k x (ran d p k limit x).after
-  pub back : (backed p x).whose ≡ Whose.Seat k → OtherSeat k x (backed p x).after
+  pub back : (backed p x).whose ≡ Some k → OtherSeat k x (backed p x).after
 
 -- Two machines that differ in nothing but halfwords that seat k's next order does not touch, registers of the other seat and words of the journal.
 pub record AlikeTouched (d : List ℕ) (k : ℕ) (x y : Machine) : Type 0 where

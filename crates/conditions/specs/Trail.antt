@@ -1,10 +1,9 @@
 -- The trail of condition 3 (document 01, 'Journal and back steps', last paragraph; document 02, Job 12). It is fed the start, the deck, the protect
 -- list, the journal's length and the calls with their seats.
-use Rattle.std.specs.Prelude.{ℕ, zero, suc, ◌+◌, ◌-◌, ◌<◌, ◌≡◌, List, [], ◌∷◌, cond, length, eqb}
+use Rattle.std.specs.Prelude.{Option, ℕ, zero, suc, ◌+◌, ◌-◌, ◌<◌, ◌≡◌, List, [], ◌∷◌, cond, length, eqb}
 use Rattle.hexfloat.specs.Answer.{Answer}
 use Rattle.protection.specs.Form.{ProtectList}
 use Rattle.machine.specs.declared.state.State.{State}
-use Rattle.machine.specs.declared.undoing.Whose.{Whose}
 use Rattle.machine.specs.declared.verdict.Effect.{Effect}
 use Rattle.machine.specs.Back.{undone, backed}
 use Rattle.machine.specs.Change.{memory_after}
@@ -99,7 +98,7 @@ called d p back x = backed p x
 pub record Reply : Type 0 where
   pub taken : ℕ
   pub stop : ℕ
-  pub whose : Whose
+  pub whose : Option ℕ
 
 abbrev pub reply_of : {W : Type 0} → Outcome W → Reply
 reply_of r = record { taken = r.taken; stop = r.stop; whose = r.whose }

@@ -1,4 +1,5 @@
 -- A taken step and the back step after it, from the theorems on the machine.
+use Rattle.std.specs.Prelude.{Option, None}
 use Prim.Native.Nat.{ℕ}
 use native.Mathlib.Omega.{arith}
 use mathlib.Core.Path.{◌≡◌, refl, sym, ap, ◌∙◌}
@@ -6,7 +7,6 @@ use mathlib.Core.List.{List}
 use borrow.Author.Tests.{eq-eqb, ne_eqb}
 use Rattle.hexfloat.specs.Answer.{Answer, gives, stops}
 use Rattle.protection.specs.Form.{ProtectList}
-use Rattle.machine.specs.declared.undoing.Whose.{Whose}
 use Rattle.machine.specs.declared.verdict.Effect.{Effect}
 use Rattle.machine.specs.Back.{back_outcome, undone, backed}
 use Rattle.machine.specs.Machine.{Machine, machine, committed}
@@ -17,7 +17,7 @@ use Rattle.example.specs.Return.{Returned}
 
 module _ (d : List ℕ) (p : ProtectList) (k : ℕ) (x : Machine) where
   -- a step that is refused leaves all
-  pub refused : {y : Machine} {n : ℕ} → (n ≡ 0 → ⊥) → single y n ≡ stepped d p k x → Returned d p k x y n 0 Whose.Nobody
+  pub refused : {y : Machine} {n : ℕ} → (n ≡ 0 → ⊥) → single y n ≡ stepped d p k x → Returned d p k x y n 0 None
   refused {y} {n} nonzero e =
       let answered : n ≡ (stepped d p k x).stop = ap (λ (r : Outcome Machine). r.stop) e in
       let same : (stepped d p k x).after ≡ x = (theorems.leaves_all d p x).step k (λ h. nonzero (answered ∙ h)) in
@@ -42,7 +42,7 @@ module _ (d : List ℕ) (p : ProtectList) (k : ℕ) (x : Machine) where
 
   -- a step that is taken has an effect, whose record the back step reads
   pub returned :
-      {y z : Machine} {j n : ℕ} {whose : Whose} →
+      {y z : Machine} {j n : ℕ} {whose : Option ℕ} →
       Typed x.memory → j ≡ 0 → single y j ≡ stepped d p k x → back_outcome z n whose ≡ backed p y → Returned d p k x z j n whose
   returned {y} {z} {j} {n} {whose} typed none e b = cases (verdict_of d p k x) refl
     where

@@ -3,6 +3,7 @@ pub mod Arithmetic
 pub mod Checks
 pub mod Decided
 pub mod Effects
+pub mod Passed
 pub mod Placed
 pub mod Protects
 pub mod Refusals

@@ -1,9 +1,8 @@
 -- A back step (document 01, 'Journal and back steps'; checks 2, 3, 14, 15; document 02, Job 12).
-use Rattle.std.specs.Prelude.{ℕ, ◌-◌, not, List, length, ◌==◌}
+use Rattle.std.specs.Prelude.{Option, Some, ℕ, ◌-◌, not, List, length, ◌==◌}
 use Rattle.hexfloat.specs.Answer.{Answer, gives, stops, provided, checked, and_then}
 use Rattle.protection.specs.Form.{ProtectList}
 use Rattle.machine.specs.declared.state.State.{State}
-use Rattle.machine.specs.declared.undoing.Whose.{Whose}
 use Rattle.machine.specs.declared.verdict.Effect.{Effect}
 use Rattle.machine.specs.Change.{placed, guarded, memory_after}
 use Rattle.machine.specs.Decide.{held_in}
@@ -27,11 +26,11 @@ abbrev pub last_seat : State → List ℕ → ℕ
 last_seat s j = seat_in (record_at j (s.used - 1))
 
 -- a back step takes no step, and says whose step it took back
-abbrev pub back_outcome : {W : Type 0} → W → ℕ → Whose → Outcome W
+abbrev pub back_outcome : {W : Type 0} → W → ℕ → Option ℕ → Outcome W
 back_outcome x n w = record { after = x; taken = 0; stop = n; whose = w }
 
 abbrev pub undone : {W : Type 0} → W → ℕ → Outcome W
-undone x k = back_outcome x 0 (Whose.Seat k)
+undone x k = back_outcome x 0 (Some k)
 
 -- everything is put back into that seat, and the used count goes down by one; journal words stay
 abbrev pub backed_by : Answer Effect → ℕ → Machine → Outcome Machine

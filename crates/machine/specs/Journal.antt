@@ -1,11 +1,10 @@
 -- The journal's records (document 01, 'Journal and back steps'; document 02, Jobs 8 and 12): four words a record. Word 0 is pointer + 2^16 · CC +
 -- 2^18 · mask + 2^19 · kind + 2^22 · selector + 2^23 · seat, word 1 the register or address, words 2 and 3 contents, leftmost first; unused words are 0. A
 -- general register is of the set that the record's own selector names, and every register is of the record's seat.
-use Rattle.std.specs.Prelude.{◌≡◌, ℕ, ◌+◌, ◌*◌, ◌/◌, ◌%◌, ◌^◌, ◌<◌, ◌≤◌, true, cond, List, ◌==◌, nat_le, nat_lt, slice_index, slice_set}
+use Rattle.std.specs.Prelude.{Option, Some, None, ◌≡◌, ℕ, ◌+◌, ◌*◌, ◌/◌, ◌%◌, ◌^◌, ◌<◌, ◌≤◌, true, cond, List, ◌==◌, nat_le, nat_lt, slice_index, slice_set}
 use Rattle.hexfloat.specs.Answer.{Answer, gives, stops, mapped, provided}
 use Rattle.machine.specs.declared.change.Change.{Change}
 use Rattle.machine.specs.declared.journal.Record.{Record}
-use Rattle.machine.specs.declared.journal.Decoded.{Decoded}
 use Rattle.machine.specs.declared.verdict.Effect.{Effect}
 use Rattle.machine.specs.declared.state.Status.{Status}
 use Rattle.machine.specs.Change.{registered}
@@ -39,9 +38,9 @@ unfoldable pub seat_in : Record → ℕ
 seat_in q = q.head / 2 ^ 23 % 2
 
 -- what the code's answer says: a record that is not of its form is a 15
-abbrev pub says_change : Decoded → Answer Change
-says_change (Decoded.Formed ch) = gives ch
-says_change Decoded.Broken = stops 15
+abbrev pub says_change : Option Change → Answer Change
+says_change (Some ch) = gives ch
+says_change None = stops 15
 
 -- a register above 7, or an unused word that is not 0, breaks the form
 abbrev pub in_register : ℕ → ℕ → Change → Answer Change

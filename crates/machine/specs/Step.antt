@@ -1,10 +1,9 @@
 -- A step (document 01, 'Orders' and 'Causes and their numbers'; document 02, Job 12). W is what steps are taken in: the machine, or the trail of condition 3.
-use Rattle.std.specs.Prelude.{ℕ, ◌+◌, cond, List, length, ◌==◌}
+use Rattle.std.specs.Prelude.{Option, None, ℕ, ◌+◌, cond, List, length, ◌==◌}
 use Rattle.hexfloat.specs.Answer.{Answer, gives, stops}
 use Rattle.orders.specs.declared.order.Order.{Order}
 use Rattle.orders.specs.Order.{order_at}
 use Rattle.protection.specs.Form.{ProtectList}
-use Rattle.machine.specs.declared.undoing.Whose.{Whose}
 use Rattle.machine.specs.declared.verdict.Effect.{Effect}
 use Rattle.machine.specs.Decide.{pointer_of, decided}
 use Rattle.machine.specs.Machine.{Machine, committed}
@@ -16,11 +15,11 @@ pub record Outcome (W : Type 0) : Type 0 where
   pub after : W
   pub taken : ℕ
   pub stop : ℕ
-  pub whose : Whose
+  pub whose : Option ℕ
 
 -- of a call that took no step back
 abbrev pub outcome : {W : Type 0} → W → ℕ → ℕ → Outcome W
-outcome x n k = record { after = x; taken = n; stop = k; whose = Whose.Nobody }
+outcome x n k = record { after = x; taken = n; stop = k; whose = None }
 
 -- a call that takes one step unless it stops
 abbrev pub single : {W : Type 0} → W → ℕ → Outcome W

@@ -79,10 +79,10 @@ pub fn advance(
             seat, float, general, now, other, used, deck, memory, protect, words,
         );
         match v {
-            Verdict::Refused(stop) => {
+            Err(stop) => {
                 return ended(now, used, count, stop);
             }
-            Verdict::Granted(e) => {
+            Ok(e) => {
                 let change = e.change;
                 let record = record_of(seat, float, general, now, e, memory);
                 now = e.status;

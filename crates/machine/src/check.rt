@@ -42,13 +42,7 @@ pub fn buffers_sized(protect: &[u8], memory: usize, journal: usize) -> bool
 pub fn condition_formed(condition: u32) -> bool
     ensures { result ≡ condition_formed condition }
 {
-    if condition == 0 {
-        return true;
-    }
-    if condition == 1 {
-        return true;
-    }
-    condition == 3
+    matches!(condition, 0 | 1 | 3)
 }
 
 #[tactic(auto, unfolding(crate::specs::Status::status_formed))]

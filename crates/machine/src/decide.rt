@@ -1,22 +1,23 @@
 // Every check of a step, in the table's order.
 ghost use Rattle.std.specs.Prelude.{◌≡◌};
+ghost use Rattle.hexfloat.specs.Answer.{checked, gives};
 ghost use Rattle.protection.specs.Bits.{bitwise};
 ghost use Rattle.orders.specs.Address.{address_of};
 ghost use Rattle.machine.specs.Decide.{held_stop, entry_stop, judged, decided, Judgeable};
 ghost use Rattle.machine.specs.Machine.{registers};
 ghost use Rattle.machine.specs.Seats.{seated, Beside};
 ghost use Rattle.machine.specs.Stops.{number_of};
-ghost use Rattle.machine.specs.Says.{says};
+ghost use Rattle.machine.specs.Says.{says, says_passed};
 
 use crate::check::{any_protected, buffers_sized, deck_sized, is_present, state_formed};
 use crate::deck::order_at;
 use crate::effect::effect;
 use crate::state::Status;
-use crate::stop::{Stop, number};
+use crate::stop::Stop;
 use crate::verdict::Verdict;
-use orders::{Legality, Operation, Order, address, halts, legal, span, stored};
+use orders::{Operation, Order, address, halts, legal, span, stored};
 
-// Checks 2 and 3: `Taken` where both pass.
+// Checks 2 and 3.
 #[tactic(auto, unfolding(crate::specs::Decide::held_stop))]
 pub fn held(
     s: Status,
@@ -25,20 +26,43 @@ pub fn held(
     protect: &[u8],
     memory: usize,
     journal: usize,
-) -> Stop
-    ensures { number_of result ≡ held_stop (bitwise protect.now) s other used memory journal }
+) -> Result<(), Stop>
+    ensures { says_passed result ≡ checked (held_stop (bitwise protect.now) s other used memory journal) (gives tt) }
 {
     if !buffers_sized(protect, memory, journal) {
-        return Stop::BufferSize;
+        return Err(Stop::BufferSize);
     }
     if !state_formed(s, other, used, journal) {
-        return Stop::StateForm;
+        return Err(Stop::StateForm);
     }
-    Stop::Taken
+    Ok(())
 }
 
-// Checks 20 and 1 to 3, of a call that is given a seat: `Taken` where all pass.
+// Checks 20 and 1 to 3, of a call that is given a seat.
 #[tactic(auto, unfolding(crate::specs::Decide::entry_stop))]
+pub fn admit(
+    seat: u32,
+    s: Status,
+    other: Status,
+    used: u32,
+    deck: usize,
+    protect: &[u8],
+    memory: usize,
+    journal: usize,
+) -> Result<(), Stop>
+    ensures { says_passed result ≡ checked (entry_stop seat deck (bitwise protect.now) s other used memory journal) (gives tt) }
+{
+    let sized = deck_sized(deck);
+    if 1 < seat {
+        return Err(Stop::SeatAbsent);
+    }
+    if !sized {
+        return Err(Stop::DeckSize);
+    }
+    held(s, other, used, protect, memory, journal)
+}
+
+// The same as the number's name: `Taken` where all pass.
 pub fn entry(
     seat: u32,
     s: Status,
@@ -51,14 +75,10 @@ pub fn entry(
 ) -> Stop
     ensures { number_of result ≡ entry_stop seat deck (bitwise protect.now) s other used memory journal }
 {
-    let sized = deck_sized(deck);
-    if 1 < seat {
-        return Stop::SeatAbsent;
+    match admit(seat, s, other, used, deck, protect, memory, journal) {
+        Ok(()) => Stop::Taken,
+        Err(stop) => stop,
     }
-    if !sized {
-        return Stop::DeckSize;
-    }
-    held(s, other, used, protect, memory, journal)
 }
 
 // Checks 12, 13, 6 and 7 of a legal order, then its effect.
@@ -80,17 +100,17 @@ fn judge(
     let verb = op.verb;
     let full = used as usize >= journal / 4;
     if halts(verb) {
-        return Verdict::Refused(Stop::Halted);
+        return Err(Stop::Halted);
     }
     if full {
-        return Verdict::Refused(Stop::JournalFull);
+        return Err(Stop::JournalFull);
     }
     let at = address(o, general, status.selector as u32);
     if !is_present(span(op), at, memory.len()) {
-        return Verdict::Refused(Stop::AbsentStorage);
+        return Err(Stop::AbsentStorage);
     }
     if any_protected(protect, at, stored(op)) {
-        return Verdict::Refused(Stop::ProtectedStorage);
+        return Err(Stop::ProtectedStorage);
     }
     effect(op, o, float, general, status, memory, at)
 }
@@ -111,7 +131,7 @@ pub fn decide(
     ensures { Beside other (λ o. says result
         ≡ decided deck.now (bitwise protect.now) seat (seated seat (registers float.now general.now status) o used) memory.now journal) }
 {
-    let k = entry(
+    admit(
         seat,
         status,
         other,
@@ -120,20 +140,16 @@ pub fn decide(
         protect,
         memory.len(),
         journal,
-    );
-    if number(k) != 0 {
-        return Verdict::Refused(k);
-    }
+    )?;
     let p = status.pointer as usize;
     if p >= deck.len() / 4 {
-        return Verdict::Refused(Stop::PointerPast);
+        return Err(Stop::PointerPast);
     }
     let o = order_at(deck, p);
-    let checked = legal(o);
-    match checked {
-        Legality::Illegal => Verdict::Refused(Stop::IllegalOrder),
-        Legality::Legal(op) => judge(
-            op, o, float, general, status, used, memory, protect, journal,
-        ),
-    }
+    let Some(op) = legal(o) else {
+        return Err(Stop::IllegalOrder);
+    };
+    judge(
+        op, o, float, general, status, used, memory, protect, journal,
+    )
 }

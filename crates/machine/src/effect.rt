@@ -34,7 +34,7 @@ use crate::operand::{float_operand, second_operand};
 use crate::state::Status;
 use crate::stop::Stop;
 use crate::verdict::{Effect, Verdict};
-use hexfloat::{Fixed, Result, Sense, Width, Words};
+use hexfloat::{Fault, Sense, Width, Words};
 use orders::{Operation, Order, Verb, general_at};
 
 // A taken step of this change, condition code, mask and selector: the pointer moves on by one.
@@ -48,7 +48,7 @@ fn next(s: Status, change: Change, condition: u32, mask: u32, selector: u16) -> 
         pointer: s.pointer + 1,
         selector,
     };
-    Verdict::Granted(Effect { change, status })
+    Ok(Effect { change, status })
 }
 
 // Mask and selector stay.
@@ -95,11 +95,8 @@ fn fix(s: Status, r: u32, w: u32) -> Verdict
     requires { s.pointer + 1 < 65536 }
     ensures { says result ≡ mapped (fixed_into s r) (to_fixed w) }
 {
-    let f = hexfloat::to_fixed(w);
-    match f {
-        Fixed::Word(c) => granted(s, Change::General(r, c.word), c.condition),
-        Fixed::Overflow => Verdict::Refused(Stop::ConvertOverflow),
-    }
+    let c = hexfloat::to_fixed(w).ok_or(Stop::ConvertOverflow)?;
+    granted(s, Change::General(r, c.word), c.condition)
 }
 
 fn divide(width: Width, s: Status, r: u32, a: Words, b: Words) -> Verdict
@@ -143,22 +140,16 @@ pub fn product_width(width: Width, r: u32) -> Width
 }
 
 // A result of arithmetic, which sets the condition code or leaves it.
-fn place_result(sets: bool, width: Width, s: Status, r: u32, res: Result) -> Verdict
+fn place_result(sets: bool, width: Width, s: Status, r: u32, res: Result<Words, Fault>) -> Verdict
     requires { s.pointer + 1 < 65536 }
     ensures { says result ≡ mapped (result_into sets width s r) (says_result res) }
 {
-    match res {
-        Result::Number(a) => {
-            let change = float_change(width, r, a);
-            if sets {
-                return granted(s, change, hexfloat::condition(width, a));
-            }
-            granted_as_is(s, change)
-        }
-        Result::ZeroDivisor => Verdict::Refused(Stop::ZeroDivisor),
-        Result::Overflow => Verdict::Refused(Stop::Overflow),
-        Result::Underflow => Verdict::Refused(Stop::Underflow),
+    let a = res?;
+    let change = float_change(width, r, a);
+    if sets {
+        return granted(s, change, hexfloat::condition(width, a));
     }
+    granted_as_is(s, change)
 }
 
 fn load_general(s: Status, r: u32, w: u32) -> Verdict
@@ -223,7 +214,7 @@ fn perform(
         Verb::SetMask => set_mask(status, o.r2),
         Verb::Jump => jump(status, r, o.at),
         Verb::CountDown => count_down(status, r, general_at(general, selector, r), o.at),
-        Verb::Halt => Verdict::Refused(Stop::Halted),
+        Verb::Halt => Err(Stop::Halted),
         Verb::Sum(sense) => {
             let a = float_operand(width, float, r);
             sum(sense, width, status, r, a, b)

@@ -5,8 +5,9 @@ ghost use Rattle.machine.specs.Fetch.{operands_read, says_fetched};
 
 use crate::check::is_present;
 use crate::operand::{float_operand, second_operand};
+use crate::stop::Stop;
 use hexfloat::Words;
-use orders::{Legality, Operation, Order, address, legal, span};
+use orders::{Operation, Order, address, legal, span};
 
 // R r1 or pair r1, and the second operand, with the order's row.
 #[derive(Clone, Copy)]
@@ -16,13 +17,6 @@ pub struct Operands {
     pub second: Words,
 }
 
-#[derive(Clone, Copy)]
-pub enum Fetched {
-    Read(Operands),
-    Illegal,
-    Absent,
-}
-
 // Checks 5 and 6 of the order, then its operands.
 pub fn fetch(
     o: Order,
@@ -30,22 +24,21 @@ pub fn fetch(
     general: &[u32; 16],
     selector: u32,
     memory: &[u16],
-) -> Fetched
+) -> Result<Operands, Stop>
     ensures { says_fetched result ≡ operands_read o float.now general.now selector memory.now (address_of o general.now selector) }
 {
-    let checked = legal(o);
-    let Legality::Legal(op) = checked else {
-        return Fetched::Illegal;
+    let Some(op) = legal(o) else {
+        return Err(Stop::IllegalOrder);
     };
     let at = address(o, general, selector);
     if !is_present(span(op), at, memory.len()) {
-        return Fetched::Absent;
+        return Err(Stop::AbsentStorage);
     }
     let place = op.place;
     let width = op.width;
     let first = float_operand(width, float, o.r1 as u32);
     let second = second_operand(place, width, o, float, general, selector, memory, at);
-    Fetched::Read(Operands {
+    Ok(Operands {
         operation: op,
         first,
         second,

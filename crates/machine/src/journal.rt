@@ -142,56 +142,49 @@ pub fn record_of(
     encode(seat, before)
 }
 
-// The change of a record, or that its form is broken.
-#[derive(Clone, Copy)]
-pub enum Decoded {
-    Formed(Change),
-    Broken,
-}
-
-// A change of register r, where the record's `unused` word is 0.
-fn in_register(r: u32, unused: u32, ch: Change) -> Decoded
+// A change of register r, where the record's `unused` word is 0. None, here and below, where the form is broken.
+fn in_register(r: u32, unused: u32, ch: Change) -> Option<Change>
     ensures { says_change result ≡ in_register r unused ch }
 {
     if 7 < r {
-        return Decoded::Broken;
+        return None;
     }
     if unused != 0 {
-        return Decoded::Broken;
+        return None;
     }
-    Decoded::Formed(ch)
+    Some(ch)
 }
 
 // Kind 0: no word but the first is in use.
 #[tactic(auto, unfolding(crate::specs::Journal::change_from))]
-fn unchanged(place: u32, left: u32, right: u32) -> Decoded
+fn unchanged(place: u32, left: u32, right: u32) -> Option<Change>
     ensures { says_change result ≡ change_from 0 place left right }
 {
     if place != 0 {
-        return Decoded::Broken;
+        return None;
     }
     if left != 0 {
-        return Decoded::Broken;
+        return None;
     }
     if right != 0 {
-        return Decoded::Broken;
+        return None;
     }
-    Decoded::Formed(Change::Nothing)
+    Some(Change::Nothing)
 }
 
 // Kind 4: word 3 is not in use.
 #[tactic(auto, unfolding(crate::specs::Journal::change_from))]
-fn two_halfwords(at: u32, word: u32, unused: u32) -> Decoded
+fn two_halfwords(at: u32, word: u32, unused: u32) -> Option<Change>
     ensures { says_change result ≡ change_from 4 at word unused }
 {
     if unused != 0 {
-        return Decoded::Broken;
+        return None;
     }
-    Decoded::Formed(Change::Two(at, word))
+    Some(Change::Two(at, word))
 }
 
 #[tactic(auto, unfolding(crate::specs::Journal::change_from))]
-fn decode_change(kind: u32, place: u32, left: u32, right: u32) -> Decoded
+fn decode_change(kind: u32, place: u32, left: u32, right: u32) -> Option<Change>
     ensures { says_change result ≡ change_from kind place left right }
 {
     match kind {
@@ -200,8 +193,8 @@ fn decode_change(kind: u32, place: u32, left: u32, right: u32) -> Decoded
         2 => in_register(place, 0, Change::Pair(place, left, right)),
         3 => in_register(place, right, Change::General(place, left)),
         4 => two_halfwords(place, left, right),
-        5 => Decoded::Formed(Change::Four(place, left, right)),
-        _ => Decoded::Broken,
+        5 => Some(Change::Four(place, left, right)),
+        _ => None,
     }
 }
 
@@ -211,14 +204,13 @@ pub fn decode(q: Record) -> Verdict
 {
     let status = unpack(q.head);
     if !condition_formed(status.condition) {
-        return Verdict::Refused(Stop::RecordForm);
+        return Err(Stop::RecordForm);
     }
     if 16777216 <= q.head {
-        return Verdict::Refused(Stop::RecordForm);
+        return Err(Stop::RecordForm);
     }
-    let d = decode_change(q.head / 524288 % 8, q.place, q.left, q.right);
-    match d {
-        Decoded::Broken => Verdict::Refused(Stop::RecordForm),
-        Decoded::Formed(change) => Verdict::Granted(Effect { change, status }),
-    }
+    let change = decode_change(q.head / 524288 % 8, q.place, q.left, q.right);
+    change
+        .map(|change| Effect { change, status })
+        .ok_or(Stop::RecordForm)
 }

@@ -41,7 +41,7 @@ pub fn jump(s: Status, bits: u32, at: u16) -> Verdict
     requires { s.pointer + 1 < 65536 }
     ensures { says result ≡ gives (jumped s bits at) }
 {
-    Verdict::Granted(Effect {
+    Ok(Effect {
         change: Change::Nothing,
         status: moved(s, is_set(bits, s.condition), at),
     })
@@ -51,7 +51,7 @@ pub fn jump(s: Status, bits: u32, at: u16) -> Verdict
 fn one_less(n: u32) -> u32
     ensures { result ≡ one_less n }
 {
-    std::num::wrapping_sub_u32(n, 1)
+    n.wrapping_sub(1)
 }
 
 // JN, where G r holds w.
@@ -61,7 +61,7 @@ pub fn count_down(s: Status, r: u32, w: u32, at: u16) -> Verdict
     ensures { says result ≡ gives (counted_down s r w at) }
 {
     let less = one_less(w);
-    Verdict::Granted(Effect {
+    Ok(Effect {
         change: Change::General(r, less),
         status: moved(s, less != 0, at),
     })

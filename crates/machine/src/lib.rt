@@ -3,8 +3,8 @@
 // A step decides first and writes afterwards, so a stop leaves everything as it was. What this file
 // exports has no `requires` and one equation with a definition of specs/ as its whole contract; functions
 // between the modules may have a `requires`. `fresh`, `step`, `run` and `back` hand a state back,
-// `step_seat` what a step leaves of its seat; `registers_of`, `deck_sized`, `entry`, `fetch` and
-// `product_width` are for tools that ask and write nothing.
+// `step_seat` what a step leaves of its seat; `registers_of`, `deck_sized`, `admit`, `entry`, `fetch`
+// and `product_width` are for tools that ask and write nothing.
 #![tactic(auto)]
 
 mod advance;
@@ -25,11 +25,11 @@ mod undoing;
 mod verdict;
 
 pub use check::deck_sized;
-pub use decide::entry;
+pub use decide::{admit, entry};
 pub use effect::product_width;
-pub use fetching::{Fetched, Operands, fetch};
+pub use fetching::{Operands, fetch};
 pub use running::{Ran, run};
 pub use state::{Registers, State, Status, fresh, registers_of};
 pub use stepping::{SeatStepped, Stepped, step, step_seat};
 pub use stop::{Stop, number};
-pub use undoing::{Undone, Whose, back};
+pub use undoing::{Undone, back};

@@ -7,9 +7,9 @@ ghost use Rattle.machine.specs.Step.{outcome};
 ghost use Rattle.machine.specs.Run.{ran};
 
 use crate::advance::advance;
-use crate::decide::entry;
+use crate::decide::admit;
 use crate::state::{State, Status, assemble, other_of, registers_of};
-use crate::stop::{Stop, number};
+use crate::stop::Stop;
 
 #[derive(Clone, Copy)]
 pub struct Ran {
@@ -37,7 +37,7 @@ pub fn run(
     let beside = other.status;
     let used = s.used;
     let words = journal.len();
-    let checks = entry(
+    if let Err(stop) = admit(
         seat,
         s.seat0.status,
         s.seat1.status,
@@ -46,12 +46,11 @@ pub fn run(
         protect,
         memory.len(),
         words,
-    );
-    if number(checks) != 0 {
+    ) {
         return Ran {
             state: s,
             count: 0,
-            stop: checks,
+            stop,
         };
     }
     let mut float = own.float;

@@ -10,21 +10,15 @@ use crate::change::{is_guarded, is_placed, registers_after, store};
 use crate::decide::held;
 use crate::journal::{decode, read_record, seat_in};
 use crate::state::{State, other_of, registers_of, seat_down};
-use crate::stop::{Stop, number};
+use crate::stop::Stop;
 use crate::verdict::{Effect, Verdict};
 
-// Whose step was taken back.
-#[derive(Clone, Copy)]
-pub enum Whose {
-    Nobody,
-    Seat(u32),
-}
-
+// With the seat whose step was taken back, if one was.
 #[derive(Clone, Copy)]
 pub struct Undone {
     pub state: State,
     pub stop: Stop,
-    pub whose: Whose,
+    pub whose: Option<u32>,
 }
 
 // Check 15 of an effect that a record gives: its halfwords are there, and none is protected.
@@ -34,12 +28,12 @@ fn allow(e: Effect, protect: &[u8], memory: usize) -> Verdict
 {
     let ch = e.change;
     if !is_placed(ch, memory) {
-        return Verdict::Refused(Stop::RecordForm);
+        return Err(Stop::RecordForm);
     }
     if is_guarded(protect, ch) {
-        Verdict::Refused(Stop::RecordForm)
+        Err(Stop::RecordForm)
     } else {
-        Verdict::Granted(e)
+        Ok(e)
     }
 }
 
@@ -47,26 +41,20 @@ fn allow(e: Effect, protect: &[u8], memory: usize) -> Verdict
 fn recall(s: State, memory: usize, protect: &[u8], journal: &[u32]) -> Verdict
     ensures { says result ≡ returning (bitwise protect.now) s memory journal.now }
 {
-    let k = held(
+    held(
         s.seat0.status,
         s.seat1.status,
         s.used,
         protect,
         memory,
         journal.len(),
-    );
-    if number(k) != 0 {
-        return Verdict::Refused(k);
-    }
+    )?;
     let used = s.used;
     if used == 0 {
-        return Verdict::Refused(Stop::NothingBefore);
+        return Err(Stop::NothingBefore);
     }
-    let v = decode(read_record(journal, used - 1));
-    match v {
-        Verdict::Refused(stop) => Verdict::Refused(stop),
-        Verdict::Granted(e) => allow(e, protect, memory),
-    }
+    let e = decode(read_record(journal, used - 1))?;
+    allow(e, protect, memory)
 }
 
 // The last step taken back, whichever seat's it was; the journal's words stay.
@@ -76,12 +64,12 @@ pub fn back(s: State, memory: &mut [u16], protect: &[u8], journal: &mut [u32]) -
 {
     let v = recall(s, memory.len(), protect, journal);
     match v {
-        Verdict::Refused(k) => Undone {
+        Err(k) => Undone {
             state: s,
             stop: k,
-            whose: Whose::Nobody,
+            whose: None,
         },
-        Verdict::Granted(e) => {
+        Ok(e) => {
             let change = e.change;
             let used = s.used - 1;
             let seat = seat_in(read_record(journal, used));
@@ -92,7 +80,7 @@ pub fn back(s: State, memory: &mut [u16], protect: &[u8], journal: &mut [u32]) -
             Undone {
                 state,
                 stop: Stop::Taken,
-                whose: Whose::Seat(seat),
+                whose: Some(seat),
             }
         }
     }

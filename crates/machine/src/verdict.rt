@@ -10,8 +10,4 @@ pub struct Effect {
     pub status: Status,
 }
 
-#[derive(Clone, Copy)]
-pub enum Verdict {
-    Refused(Stop),
-    Granted(Effect),
-}
+pub type Verdict = Result<Effect, Stop>;

@@ -1,9 +1,8 @@
 -- A call by its two bytes, as the lists of calls name them.
-use Rattle.std.specs.Prelude.{ℕ, zero, suc, ◌+◌, ◌*◌, ◌-◌, cond, List, get_or, eqb, ltb}
+use Rattle.std.specs.Prelude.{None, ℕ, zero, suc, ◌+◌, ◌*◌, ◌-◌, cond, List, get_or, eqb, ltb}
 use Rattle.protection.specs.Form.{ProtectList}
 use Rattle.machine.specs.declared.state.State.{State}
 use Rattle.machine.specs.declared.stop.Stop.{Stop}
-use Rattle.machine.specs.declared.undoing.Whose.{Whose}
 use Rattle.machine.specs.Back.{backed}
 use Rattle.machine.specs.Machine.{Machine, machine}
 use Rattle.machine.specs.Run.{ran}
@@ -20,7 +19,7 @@ abbrev pub answered : Called → List ℕ → List ℕ → Outcome Machine
 answered r m j = record { after = machine r.state m j; taken = r.count; stop = number_of r.stop; whose = r.whose }
 
 abbrev pub forward_called : State → ℕ → Stop → Called
-forward_called s n k = record { state = s; count = n; stop = k; whose = Whose.Nobody }
+forward_called s n k = record { state = s; count = n; stop = k; whose = None }
 
 -- the seat's byte, then `s` a step, `b` a back step, which no seat is given, anything else a run
 unfoldable pub called : ℕ → ℕ → List ℕ → ProtectList → Machine → Outcome Machine

@@ -20,46 +20,46 @@ loop-count-init c = λ o h. under_start _ _ _ _ _
 pub decide-v-requires : goal.decide-v-requires
 decide-v-requires c = tt
 
-pub shape_of-memory-in-Refused : goal.shape_of-memory-in-Refused
-shape_of-memory-in-Refused c = (c.loop-count.invariant (bare c.args.other) refl).memory
+pub shape_of-memory-in-Err : goal.shape_of-memory-in-Err
+shape_of-memory-in-Err c = (c.loop-count.invariant (bare c.args.other) refl).memory
 
-pub shape_of-journal-in-Refused : goal.shape_of-journal-in-Refused
-shape_of-journal-in-Refused c = (c.loop-count.invariant (bare c.args.other) refl).journal
+pub shape_of-journal-in-Err : goal.shape_of-journal-in-Err
+shape_of-journal-in-Err c = (c.loop-count.invariant (bare c.args.other) refl).journal
 
-pub returns-in-Refused : goal.returns-in-Refused
-returns-in-Refused c =
+pub returns-in-Err : goal.returns-in-Err
+returns-in-Err c =
     let r = c.ended.ensures in
     λ o h. rw (r.0, r.1, r.2, r.3)
-    (sym (under_stop _ _ _ _ _ _ _ (c.loop-count.invariant o h) _ (omega (arith, c.loop-count-test.true)) (sym (c.decide-v.ensures o h) ∙ ap says c.in-Refused.is)))
+    (sym (under_stop _ _ _ _ _ _ _ (c.loop-count.invariant o h) _ (omega (arith, c.loop-count-test.true)) (sym (c.decide-v.ensures o h) ∙ ap says c.in-Err.is)))
 
 pub record_of-record-requires : goal.record_of-record-requires
 record_of-record-requires c =
     let other = bare c.args.other in
-    let known = committable_seated _ _ _ _ _ _ _ _ _ (sym (c.decide-v.ensures other refl) ∙ ap says c.in-Granted.is) in
+    let known = committable_seated _ _ _ _ _ _ _ _ _ (sym (c.decide-v.ensures other refl) ∙ ap says c.in-Ok.is) in
     (known.register, known.there, known.seat, known.status)
 
 pub put-requires : goal.put-requires
 put-requires c =
     let other = bare c.args.other in
-    let known = committable_seated _ _ _ _ _ _ _ _ _ (sym (c.decide-v.ensures other refl) ∙ ap says c.in-Granted.is) in
+    let known = committable_seated _ _ _ _ _ _ _ _ _ (sym (c.decide-v.ensures other refl) ∙ ap says c.in-Ok.is) in
     (known.register, known.selector)
 
 pub store-requires : goal.store-requires
 store-requires c =
     let other = bare c.args.other in
-    let known = committable_seated _ _ _ _ _ _ _ _ _ (sym (c.decide-v.ensures other refl) ∙ ap says c.in-Granted.is) in
+    let known = committable_seated _ _ _ _ _ _ _ _ _ (sym (c.decide-v.ensures other refl) ∙ ap says c.in-Ok.is) in
     known.there
 
 pub write_record-requires : goal.write_record-requires
 write_record-requires c =
     let other = bare c.args.other in
-    let known = committable_seated _ _ _ _ _ _ _ _ _ (sym (c.decide-v.ensures other refl) ∙ ap says c.in-Granted.is) in
+    let known = committable_seated _ _ _ _ _ _ _ _ _ (sym (c.decide-v.ensures other refl) ∙ ap says c.in-Ok.is) in
     known.room
 
 pub overflow_add-used : goal.overflow_add-used
 overflow_add-used c =
     let other = bare c.args.other in
-    let known = committable_seated _ _ _ _ _ _ _ _ _ (sym (c.decide-v.ensures other refl) ∙ ap says c.in-Granted.is) in
+    let known = committable_seated _ _ _ _ _ _ _ _ _ (sym (c.decide-v.ensures other refl) ∙ ap says c.in-Ok.is) in
     omega (arith, known.count)
 
 pub overflow_add-count : goal.overflow_add-count
@@ -71,7 +71,7 @@ loop-count-smaller c = omega (arith, c.loop-count-test.true)
 pub loop-count-preserved : goal.loop-count-preserved
 loop-count-preserved c =
     let after = c.put.ensures in
-    λ o h. under_on _ _ _ _ _ _ _ (c.loop-count.invariant o h) _ _ (omega (arith, c.loop-count-test.true)) (sym (c.decide-v.ensures o h) ∙ ap says c.in-Granted.is)
+    λ o h. under_on _ _ _ _ _ _ _ (c.loop-count.invariant o h) _ _ (omega (arith, c.loop-count-test.true)) (sym (c.decide-v.ensures o h) ∙ ap says c.in-Ok.is)
     (rw (after.0, after.1, c.store.ensures, c.write_record.ensures, c.record_of-record.ensures) (committed-seated _ _ _ _ _ _ _))
     c.store.auto.memory
     c.write_record.auto.journal

@@ -1,58 +1,44 @@
 -- `machine::undoing::recall` meets its contract: the checks in turn.
 -- Assumes nothing.
-use Rattle.std.proofs.Common.{sym, ◌∙◌, arith, eq-eqb, ne_eqb}
+use Rattle.std.proofs.Common.{arith, eq-eqb, ne_eqb}
 use Rattle.machine.specs.Back.{returning}
-use Rattle.machine.specs.Stops.{number_of}
 use Rattle.machine.proofs.Checks.{held}
+use Rattle.machine.proofs.Passed.{passed, refused, handed}
 use Rattle.machine.proofs.undoing.recall.Goals as goal
 
-pub returns-then-number-ne0 : goal.returns-then-number-ne0
+pub returns-in_err-held : goal.returns-in_err-held
 unfolding returning
-returns-then-number-ne0 c =
-    let checks = c.held-k in
-    rw (← checks.ensures, ne_eqb (number_of checks.result) 0 (λ z. c.if-number-ne0.true (c.number.ensures ∙ z)))
+returns-in_err-held c = rw (handed _ _ c.from_residual.ensures.1) (refused _ _ c.held.ensures c.in_err-held.was)
 
 pub returns-then-used-eq0 : goal.returns-then-used-eq0
 unfolding returning
-returns-then-used-eq0 c =
-    let checks = c.held-k in
-    let zero = sym c.number.ensures ∙ c.if-number-ne0.false in
-    let passes = eq-eqb (number_of checks.result) 0 zero in
-    rw (← checks.ensures, passes, eq-eqb _ 0 c.if-used-eq0.true)
+returns-then-used-eq0 c = rw (eq-eqb _ 0 (passed _ c.held.ensures c.in_ok-held.was), eq-eqb _ 0 c.if-used-eq0.true)
 
 pub read_record-requires : goal.read_record-requires
 read_record-requires c =
-    let zero = sym c.number.ensures ∙ c.if-number-ne0.false in
-    let h = held _ _ _ _ _ _ (sym c.held-k.ensures ∙ zero) in
+    let h = held _ _ _ _ _ _ (passed _ c.held.ensures c.in_ok-held.was) in
     omega (arith, h.room, c.if-used-eq0.false)
 
-pub returns-in-Refused : goal.returns-in-Refused
+pub returns-in_err-e : goal.returns-in_err-e
 unfolding returning
-returns-in-Refused c =
-    let checks = c.held-k in
-    let zero = sym c.number.ensures ∙ c.if-number-ne0.false in
-    let passes = eq-eqb (number_of checks.result) 0 zero in
+returns-in_err-e c =
     rw (
-      ← checks.ensures,
-      passes,
+      handed _ _ c.from_residual-in_err-e.ensures.1,
+      eq-eqb _ 0 (passed _ c.held.ensures c.in_ok-held.was),
       ne_eqb _ 0 c.if-used-eq0.false,
       ← c.read_record.ensures,
-      ← c.decode-v.ensures,
-      c.in-Refused.is,
+      ← c.decode.ensures,
+      c.in_err-e.was,
     )
 
-pub returns-in-Granted : goal.returns-in-Granted
+pub returns : goal.returns
 unfolding returning
-returns-in-Granted c =
-    let checks = c.held-k in
-    let zero = sym c.number.ensures ∙ c.if-number-ne0.false in
-    let passes = eq-eqb (number_of checks.result) 0 zero in
+returns c =
     rw (
-      ← checks.ensures,
-      passes,
+      eq-eqb _ 0 (passed _ c.held.ensures c.in_ok-held.was),
       ne_eqb _ 0 c.if-used-eq0.false,
       ← c.read_record.ensures,
-      ← c.decode-v.ensures,
-      c.in-Granted.is,
+      ← c.decode.ensures,
+      c.in_ok-e.was,
     )
     c.allow.ensures
