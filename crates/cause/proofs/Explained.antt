@@ -1,4 +1,5 @@
 -- What is answered of a legal order, by the checks that it passes.
+use Rattle.std.specs.Prelude.{Result, Ok, Err}
 use Prim.Native.Nat.{ℕ, ◌+◌, ◌/◌, ◌<◌, ◌≤◌}
 use mathlib.Core.Path.{◌≡◌, refl, sym, ap, ◌∙◌}
 use mathlib.Core.List.{List}
@@ -12,7 +13,7 @@ use Rattle.orders.specs.declared.order.Operation.{Operation}
 use Rattle.orders.specs.declared.order.Order.{Order}
 use Rattle.orders.specs.Order.{legal_of, span_of, stored_of, order_at}
 use Rattle.protection.specs.Form.{ProtectList, is_protected}
-use Rattle.machine.specs.declared.fetching.Fetched.{Fetched}
+use Rattle.machine.specs.declared.stop.Stop.{Stop}
 use Rattle.machine.specs.declared.fetching.Operands.{Operands}
 use Rattle.machine.specs.declared.state.Registers.{Registers}
 use Rattle.machine.specs.declared.state.State.{State}
@@ -21,6 +22,7 @@ use Rattle.machine.specs.Operand.{address_in}
 use Rattle.machine.specs.Check.{present}
 use Rattle.machine.specs.Decide.{entry_stop, entry_in, accessed, judged_at, decided}
 use Rattle.machine.specs.Effect.{effect_of}
+use Rattle.machine.specs.Stops.{number_of}
 use Rattle.machine.specs.Fetch.{operands_of, operands_read, says_fetched}
 use Rattle.machine.specs.Machine.{machine}
 use Rattle.machine.specs.Seats.{registers_of}
@@ -55,10 +57,9 @@ module _ (op : Operation) (o : Order) (g : Registers) (m : List ℕ) (a : ℕ) (
       cases true e = never e
       cases false e = refl
 
-  pub unread : (r : Fetched) → ((q : Operands) → r ≡ Fetched.Read q → ⊥) → says_fetched r ≡ read → there ≡ false
-  unread (Fetched.Read q) never_read h = absurd (never_read q refl)
-  unread Fetched.Illegal never_read h = not_given 5 h
-  unread Fetched.Absent never_read h = not_given 6 h
+  pub unread : (r : Result Operands Stop) → ((q : Operands) → r ≡ Ok q → ⊥) → says_fetched r ≡ read → there ≡ false
+  unread (Ok q) never_read h = absurd (never_read q refl)
+  unread (Err k) never_read h = not_given (number_of k) h
 
   given : (q : Operands) → gives q ≡ read → (there ≡ true) × (q ≡ operands_of o g.float g.general g.status.selector m a op)
   unfolding operands_read

@@ -1,5 +1,7 @@
 -- The lowest of some addresses that a check refuses.
-use Prim.Native.Nat.{ℕ, zero, suc, ◌+◌, ◌-◌, ◌<◌, ◌≤◌}
+use Rattle.std.specs.Prelude.{Option, Some, None, MatchOption}
+use Rattle.std.specs.Option.{unwrap_or}
+use Prim.Native.Nat.{ℕ, zero, suc, ◌+◌, ◌<◌, ◌≤◌}
 use mathlib.Core.Path.{◌≡◌, refl, sym, ap, ◌∙◌}
 use mathlib.Core.Bool.{Bool, true, false, cond, ◌||◌}
 use mathlib.Core.Logic.{⊎_elim}
@@ -18,17 +20,26 @@ module _ (refuses : ℕ → Bool) where
   lowest_here a zero h = refl
   lowest_here a (suc n) h = ap (λ (t : Bool). cond t a (lowest refuses (a + 1) n)) h
 
-  pub lowest_on : (a n : ℕ) → 0 < n → refuses a ≡ false → lowest refuses a n ≡ lowest refuses (a + 1) (n - 1)
+  -- it is x, where each lower one passes, and x itself does not or is their end
+  pub lowest_at : (a n x : ℕ) → a ≤ x → x ≤ a + n → (x < a + n → refuses x ≡ true) → ((b : ℕ) → a ≤ b → b < x → refuses b ≡ false) → lowest refuses a n ≡ x
   unfolding lowest
-  lowest_on a zero h e = absurd (omega arith)
-  lowest_on a (suc n) h e =
-      let less : n ≡ suc n - 1 = omega arith in
-      rw (e) (ap (lowest refuses (a + 1)) less)
+  lowest_at a zero x l u r p = omega arith
+  lowest_at a (suc n) x l u r p = cases (leb (a + 1) x) refl (λ h. lowest_at (a + 1) n x h (omega arith) (λ z. r (omega (arith, z))) (λ b m. p b (omega (arith, m))))
+    where
+      cases : (t : Bool) → leb (a + 1) x ≡ t → (a + 1 ≤ x → lowest refuses (a + 1) n ≡ x) → cond (refuses a) a (lowest refuses (a + 1) n) ≡ x
+      cases true t rest =
+          let h : a + 1 ≤ x = leb-true (a + 1) x t in
+          rw (p a (omega arith) (omega (arith, h))) (rest h)
+      cases false t rest =
+          let e : a ≡ x = omega (arith, leb-false (a + 1) x t) in
+          ap (λ (z : Bool). cond z a (lowest refuses (a + 1) n)) (ap refuses e ∙ r (omega (arith, e))) ∙ e
 
-  pub lowest_none : (a n : ℕ) → n ≤ 0 → lowest refuses a n ≡ a
-  unfolding lowest
-  lowest_none a zero h = refl
-  lowest_none a (suc n) h = absurd (omega arith)
+  -- by a search for the first that does not pass
+  pub lowest_found : (a n : ℕ) (r : Option ℕ)
+      → MatchOption r ((k : ℕ) → a ≤ k → k < a + n → false ≡ refuses k) (λ i. (a ≤ i) × (i < a + n) × (true ≡ refuses i) × ((k : ℕ) → a ≤ k → k < i → false ≡ refuses k))
+      → unwrap_or r (a + n) ≡ lowest refuses a n
+  lowest_found a n None h = sym (lowest_at a n (a + n) (omega arith) (omega arith) (λ z. absurd (omega (arith, z))) (λ b l u. sym (h b l u)))
+  lowest_found a n (Some i) h = sym (lowest_at a n i h.0 (omega (arith, h.1)) (λ z. sym h.2) (λ b l u. sym (h.3 b l u)))
 
   -- one address more in front, which the check lets pass
   more : (a n x : ℕ) → refuses a ≡ false → IsLowest refuses (a + 1) n x → IsLowest refuses a (suc n) x

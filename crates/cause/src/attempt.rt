@@ -3,10 +3,11 @@
 // stands once in a program, and a second place that calls the arithmetic would slow down every step.
 ghost use Rattle.std.specs.Prelude.{◌≡◌};
 ghost use Rattle.machine.specs.Step.{stepped};
+ghost use Rattle.machine.specs.Stops.{number_of};
 ghost use Rattle.cause.specs.Attempt.{halfwords_of, attempt_deck, attempt_protect, attempt_machine};
 
 use hexfloat::Words;
-use machine::{Registers, State, Status};
+use machine::{Registers, State, Status, Stop};
 use orders::Order;
 
 fn halfwords(b: Words) -> [u16; 4]
@@ -20,9 +21,9 @@ fn halfwords(b: Words) -> [u16; 4]
     ]
 }
 
-// The number that the step answers.
-pub fn attempt(o: Order, second: Words, float: [u32; 8], mask: u32) -> u8
-    ensures { result ≡ (stepped (attempt_deck o) attempt_protect 0 (attempt_machine float mask second)).stop }
+// How the step ends.
+pub fn attempt(o: Order, second: Words, float: [u32; 8], mask: u32) -> Stop
+    ensures { number_of result ≡ (stepped (attempt_deck o) attempt_protect 0 (attempt_machine float mask second)).stop }
 {
     let general = [0; 16]; // no index
     let status = Status {
@@ -46,6 +47,5 @@ pub fn attempt(o: Order, second: Words, float: [u32; 8], mask: u32) -> u8
     let protect = [0; 1];
     let mut journal = [0; 4];
     let stepped = machine::step(state, 0, &deck, &mut memory, &protect, &mut journal);
-    let stop = stepped.stop;
-    machine::number(stop)
+    stepped.stop
 }

@@ -2,7 +2,7 @@
 ghost use Rattle.std.specs.Prelude.{◌≡◌};
 ghost use Rattle.cause.specs.Cell.{first_cell, breaks};
 
-use orders::{Legality, Order, look_up};
+use orders::{Order, look_up};
 
 #[derive(Clone, Copy)]
 pub enum Cell {
@@ -17,8 +17,7 @@ pub enum Cell {
 pub fn first_broken(o: Order) -> Cell
     ensures { result ≡ first_cell (breaks o) }
 {
-    let found = look_up(o.code);
-    let Legality::Legal(op) = found else {
+    let Some(op) = look_up(o.code) else {
         return Cell::Code;
     };
     if op.r1 < o.r1 {

@@ -11,11 +11,11 @@ ghost use Rattle.cause.specs.Cause.{cause, explained, why_of};
 
 use crate::attempt::attempt;
 use crate::cell::first_broken;
-use crate::naming::{Cause, Named};
+use crate::naming::{Cause, NO_CAUSE, Named};
 use crate::storage::{lowest_absent, lowest_protected};
 use crate::words::words_read;
-use machine::{Fetched, Registers, State};
-use orders::{Legality, Operation, Order, address, halts, legal, order_at, span, stored};
+use machine::{Registers, State};
+use orders::{Operation, Order, address, halts, legal, order_at, span, stored};
 
 // A number that names nothing.
 fn alone(number: u8) -> Cause
@@ -37,8 +37,7 @@ fn access(op: Operation, o: Order, registers: Registers, memory: &[u16], protect
     let status = registers.status;
     let selector = status.selector as u32;
     let at = address(o, &general, selector);
-    let fetched = machine::fetch(o, &float, &general, selector, memory);
-    let Fetched::Read(q) = fetched else {
+    let Ok(q) = machine::fetch(o, &float, &general, selector, memory) else {
         return Cause {
             number: 6,
             named: Named::Address(lowest_absent(at, span(op), memory.len())),
@@ -52,9 +51,9 @@ fn access(op: Operation, o: Order, registers: Registers, memory: &[u16], protect
             named: Named::Address(a),
         };
     }
-    let number = attempt(o, q.second, float, status.mask);
+    let number = machine::number(attempt(o, q.second, float, status.mask));
     if number == 0 {
-        return alone(18); // taken
+        return alone(NO_CAUSE); // taken
     }
     let named = words_read(q);
     Cause { number, named }
@@ -72,8 +71,7 @@ fn examine(
     requires { registers.status.mask ≤ 1 }
     ensures { result ≡ explained (stop_in (judged_at o registers used (bitwise protect.now) memory.now journal)) o registers memory.now (address_in o registers) (bitwise protect.now) }
 {
-    let checked = legal(o);
-    let Legality::Legal(op) = checked else {
+    let Some(op) = legal(o) else {
         return Cause {
             number: 5,
             named: Named::Cell(first_broken(o)),
@@ -81,10 +79,10 @@ fn examine(
     };
     let verb = op.verb;
     if halts(verb) {
-        return alone(18); // a step's 12
+        return alone(NO_CAUSE); // a step's 12
     }
     if used as usize >= journal / 4 {
-        return alone(18); // a step's 13
+        return alone(NO_CAUSE); // a step's 13
     }
     access(op, o, registers, memory, protect)
 }
@@ -102,7 +100,7 @@ pub fn why(
 {
     let registers = machine::registers_of(s, seat);
     let status = registers.status;
-    let k = machine::entry(
+    if let Err(stop) = machine::admit(
         seat,
         s.seat0.status,
         s.seat1.status,
@@ -111,10 +109,8 @@ pub fn why(
         protect,
         memory.len(),
         journal.len(),
-    );
-    let number = machine::number(k);
-    if number != 0 {
-        return alone(number);
+    ) {
+        return alone(machine::number(stop));
     }
     if status.pointer as usize >= deck.len() / 4 {
         return alone(4);

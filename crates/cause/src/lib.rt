@@ -13,4 +13,4 @@ mod words;
 
 pub use cell::Cell;
 pub use finding::why;
-pub use naming::{Cause, Named};
+pub use naming::{Cause, NO_CAUSE, Named};

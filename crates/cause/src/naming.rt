@@ -12,7 +12,10 @@ pub enum Named {
     FourWords(u32, u32, u32, u32),
 }
 
-// The number of the stop that the next step gives, 18 where it is none of 20 and 1 to 11.
+// The number where a stop of the next step is none of 20 and 1 to 11, or there is none.
+pub const NO_CAUSE: u8 = 18;
+
+// The number of the stop that the next step gives, or `NO_CAUSE`.
 #[derive(Clone, Copy)]
 pub struct Cause {
     pub number: u8,

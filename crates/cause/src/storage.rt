@@ -24,14 +24,8 @@ pub fn lowest_protected(protect: &[u8], at: u32, n: u32) -> u32
     requires { at + n < 0x100000000 }
     ensures { result ≡ lowest (is_protected (bitwise protect.now)) at n }
 {
-    let mut a = at;
-    let mut left = n;
-    while 0 < left {
-        if protection::is_protected(protect, a as usize) {
-            return a;
-        }
-        a += 1;
-        left -= 1;
-    }
-    a
+    let end = at + n;
+    (at..end)
+        .find(|a| protection::is_protected(protect, *a as usize))
+        .unwrap_or(end)
 }

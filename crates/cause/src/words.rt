@@ -23,22 +23,9 @@ fn arithmetic_operands(verb: Verb) -> u32
     ensures { result ≡ arithmetic_operands verb }
 {
     match verb {
-        Verb::Load => 0,
-        Verb::Complement => 0,
-        Verb::Compare => 0,
         Verb::Fix => 1,
-        Verb::Float => 0,
-        Verb::Divide => 2,
-        Verb::Store => 0,
-        Verb::LoadGeneral => 0,
-        Verb::StoreGeneral => 0,
-        Verb::SetMask => 0,
-        Verb::Jump => 0,
-        Verb::CountDown => 0,
-        Verb::Halt => 0,
-        Verb::Sum(_) => 2,
-        Verb::Multiply => 2,
-        Verb::Select => 0,
+        Verb::Divide | Verb::Sum(_) | Verb::Multiply => 2,
+        _ => 0,
     }
 }
 
@@ -60,8 +47,6 @@ fn words_named(count: u32, width: Width, a: Words, b: Words) -> Named
 pub fn words_read(q: Operands) -> Named
     ensures { result ≡ words_read (gives q) }
 {
-    let operation = q.operation;
-    let verb = operation.verb;
-    let width = operation.width;
-    words_named(arithmetic_operands(verb), width, q.first, q.second)
+    let op = q.operation;
+    words_named(arithmetic_operands(op.verb), op.width, q.first, q.second)
 }

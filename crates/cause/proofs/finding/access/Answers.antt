@@ -25,7 +25,7 @@ lowest_absent-requires c =
 pub returns-in_default : goal.returns-in_default
 returns-in_default c =
     let x = c in
-    let absent = unread x.args.op x.args.o x.args.registers x.args.memory.now _ x.requires.legal c.fetch-fetched.result c.in_default.not-Read c.fetch-fetched.ensures in
+    let absent = unread x.args.op x.args.o x.args.registers x.args.memory.now _ x.requires.legal c.fetch.result c.in_default.not-Ok c.fetch.ensures in
     rw (c.lowest_absent.ensures, c.span.ensures, c.address-at.ensures) (sym (explain_absent x.args.op x.args.o x.args.registers (bitwise x.args.protect.now) x.args.memory.now x.requires absent))
 
 pub lowest_protected-a-requires : goal.lowest_protected-a-requires
@@ -43,20 +43,22 @@ overflow_add-at c =
 pub returns-then-a-at : goal.returns-then-a-at
 returns-then-a-at c =
     let x = c in
-    let e = sym (ap says_fetched c.in-Read.is) ∙ c.fetch-fetched.ensures in
+    let e = sym (ap says_fetched c.in-Ok.is) ∙ c.fetch.ensures in
     let low = rw (c.lowest_protected-a.ensures, c.stored-n.ensures, c.address-at.ensures) at c.if-a-at.true in
     rw (c.lowest_protected-a.ensures, c.stored-n.ensures, c.address-at.ensures) (sym (explain_protected x.args.op x.args.o x.args.registers (bitwise x.args.protect.now) x.args.memory.now x.requires _ e low))
 
 pub returns-then-number-eq0 : goal.returns-then-number-eq0
 returns-then-number-eq0 c =
     let x = c in
-    let e = sym (ap says_fetched c.in-Read.is) ∙ c.fetch-fetched.ensures in
+    let e = sym (ap says_fetched c.in-Ok.is) ∙ c.fetch.ensures in
     let free = rw (c.lowest_protected-a.ensures, c.stored-n.ensures, c.address-at.ensures) at c.if-a-at.false in
-    c.alone.ensures ∙ sym (explain_taken x.args.op x.args.o x.args.registers (bitwise x.args.protect.now) x.args.memory.now x.requires _ e free (sym c.attempt-number.ensures ∙ c.if-number-eq0.true))
+    let number = c.number-number.ensures ∙ c.attempt.ensures in
+    c.alone.ensures ∙ sym (explain_taken x.args.op x.args.o x.args.registers (bitwise x.args.protect.now) x.args.memory.now x.requires _ e free (sym number ∙ c.if-number-eq0.true))
 
 pub returns : goal.returns
 returns c =
     let x = c in
-    let e = sym (ap says_fetched c.in-Read.is) ∙ c.fetch-fetched.ensures in
+    let e = sym (ap says_fetched c.in-Ok.is) ∙ c.fetch.ensures in
     let free = rw (c.lowest_protected-a.ensures, c.stored-n.ensures, c.address-at.ensures) at c.if-a-at.false in
-    rw (c.attempt-number.ensures, c.words_read-named.ensures) (sym (explain_words x.args.op x.args.o x.args.registers (bitwise x.args.protect.now) x.args.memory.now x.requires _ e free (rw (← c.attempt-number.ensures) (search rules))))
+    let number = c.number-number.ensures ∙ c.attempt.ensures in
+    rw (number, c.words_read-named.ensures) (sym (explain_words x.args.op x.args.o x.args.registers (bitwise x.args.protect.now) x.args.memory.now x.requires _ e free (rw (← number) (search rules))))

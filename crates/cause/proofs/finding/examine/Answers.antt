@@ -11,23 +11,23 @@ use Rattle.cause.proofs.finding.examine.Goals as goal
 
 pub returns-in_default : goal.returns-in_default
 unfolding cause_number named_for
-returns-in_default c = rw (c.first_broken.ensures, ← c.legal-checked.ensures, c.in_default.is)
+returns-in_default c = rw (c.first_broken.ensures, ← c.legal.ensures, c.in_default.is)
 
 pub returns-then-halts : goal.returns-then-halts
 unfolding judged cause_number named_for
-returns-then-halts c = rw (c.alone.ensures, ← c.legal-checked.ensures, c.in-Legal.is, ← c.halts.ensures, c.if-halts.true)
+returns-then-halts c = rw (c.alone.ensures, ← c.legal.ensures, c.in-Some.is, ← c.halts.ensures, c.if-halts.true)
 
 pub returns-then-used-journal : goal.returns-then-used-journal
 unfolding judged cause_number named_for
 returns-then-used-journal c =
     let a = c.args in
     let full = le-ltb a.used (a.journal / 4) (omega (arith, c.if-used-journal.true)) in
-    rw (c.alone-then-used-journal.ensures, ← c.legal-checked.ensures, c.in-Legal.is, ← c.halts.ensures, c.if-halts.false, full)
+    rw (c.alone-then-used-journal.ensures, ← c.legal.ensures, c.in-Some.is, ← c.halts.ensures, c.if-halts.false, full)
 
 pub access-requires : goal.access-requires
 access-requires c =
     record {
-      legal = sym c.legal-checked.ensures ∙ ap says_legality c.in-Legal.is;
+      legal = sym c.legal.ensures ∙ ap says_legality c.in-Some.is;
       goes = sym c.halts.ensures ∙ c.if-halts.false;
       mask = c.requires;
     }
@@ -37,4 +37,4 @@ unfolding judged
 returns c =
     let a = c.args in
     let room = lt-ltb a.used (a.journal / 4) (omega (arith, c.if-used-journal.false)) in
-    rw (← c.legal-checked.ensures, c.in-Legal.is, ← c.halts.ensures, c.if-halts.false, room) c.access.ensures
+    rw (← c.legal.ensures, c.in-Some.is, ← c.halts.ensures, c.if-halts.false, room) c.access.ensures
