@@ -1,8 +1,8 @@
 -- A piece of the chart in a lent buffer of cells (document 02, Job 10).
-use Rattle.std.specs.Prelude.{ℕ, ◌/◌, ◌%◌, List, [], ◌∷◌, ◌++◌, cond, eqb, length, take, drop}
+use Rattle.std.specs.Prelude.{Option, Some, None, ℕ, ◌/◌, ◌%◌, List, [], ◌∷◌, ◌++◌, cond, eqb, length, take, drop}
 use Rattle.hexfloat.specs.Answer.{Answer, gives, stops}
 use Rattle.orders.specs.declared.order.Order.{Order}
-use Rattle.chart.specs.declared.listing.Charted.{Charted}
+use Rattle.chart.specs.declared.listing.Piece.{Piece}
 use Rattle.chart.specs.Chart.{chart}
 
 -- four cells an order
@@ -27,9 +27,9 @@ pub record Counts : Type 0 where
   pub written : ℕ
 
 -- what the code's answer says: a buffer that is no multiple of four cells is a 19
-abbrev pub says_charted : Charted → Answer Counts
-says_charted Charted.Uneven = stops 19
-says_charted (Charted.Piece t w) = gives (record { total = t; written = w })
+abbrev pub says_charted : Option Piece → Answer Counts
+says_charted None = stops 19
+says_charted (Some p) = gives (record { total = p.total; written = p.written })
 
 -- the buffer after a call, and its answer
 pub record Outcome : Type 0 where

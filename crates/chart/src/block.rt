@@ -4,7 +4,7 @@ ghost use Rattle.chart.specs.Block.{ats_of, block_of, size_of, Small, orders_in,
 ghost use Rattle.chart.specs.Writing.{writing, put, BlockFits};
 
 use crate::series::fill_series;
-use orders::{Legality, Order};
+use orders::Order;
 
 // A code, and how many r1, r2 and `at` its orders have.
 #[derive(Clone, Copy)]
@@ -37,15 +37,14 @@ fn ats(n: u16, limit: u16) -> u32
 pub fn block_of(n: u16, code: u16) -> Block
     ensures { result ≡ block_of n code }
 {
-    let found = orders::look_up(code);
-    match found {
-        Legality::Illegal => Block {
+    match orders::look_up(code) {
+        None => Block {
             code,
             r1s: 0,
             r2s: 0,
             ats: 0,
         },
-        Legality::Legal(op) => Block {
+        Some(op) => Block {
             code,
             r1s: op.r1 as u32 + 1,
             r2s: op.r2 as u32 + 1,
@@ -110,11 +109,7 @@ fn order_with(b: Block, p: Place) -> Order
 pub fn fitting(orders: u32, room: usize) -> u32
     ensures { result ≡ min orders room }
 {
-    let all = orders as usize;
-    if room < all {
-        return room as u32;
-    }
-    orders
+    room.min(orders as usize) as u32
 }
 
 // Writes m orders of the block, from place i on, after the `count` that are there.

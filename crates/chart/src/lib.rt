@@ -8,4 +8,4 @@ mod block;
 mod listing;
 mod series;
 
-pub use listing::{Charted, list};
+pub use listing::{Piece, list};

@@ -8,12 +8,11 @@ use crate::block::{Block, block_of, fill_block, fitting, size};
 // No order has this code or a higher one.
 const CODES: u16 = 36;
 
-// What a call answers.
+// What a call answers: how many orders the chart has, and how many of them were written.
 #[derive(Clone, Copy)]
-pub enum Charted {
-    // The buffer's length is no multiple of four cells: number 19.
-    Uneven,
-    Piece { total: u32, written: u32 },
+pub struct Piece {
+    pub total: u32,
+    pub written: u32,
 }
 
 // How far the chart is: the orders of the blocks so far, how many are still to skip, and how many are written.
@@ -56,12 +55,12 @@ fn with_block(cells: &mut [u16], room: usize, b: Block, s: Progress) -> Progress
 }
 
 // The orders from rank `rank` on of the chart for the bound n, as many as the buffer holds, into its cells
-// from the front.
-pub fn list(n: u16, rank: u32, cells: &mut [u16]) -> Charted
+// from the front. None where the buffer's length is no multiple of four cells: number 19.
+pub fn list(n: u16, rank: u32, cells: &mut [u16]) -> Option<Piece>
     ensures { outcome cells.new (says_charted result) ≡ chart_into n rank cells.old }
 {
     if cells.len() % 4 != 0 {
-        return Charted::Uneven;
+        return None;
     }
     let room = cells.len() / 4;
     let mut s = Progress {
@@ -69,13 +68,11 @@ pub fn list(n: u16, rank: u32, cells: &mut [u16]) -> Charted
         skip: rank,
         written: 0,
     };
-    let mut code: u16 = 0;
-    while code < CODES {
+    for code in 0..CODES {
         s = with_block(cells, room, block_of(n, code), s);
-        code += 1;
     }
-    Charted::Piece {
+    Some(Piece {
         total: s.total,
         written: s.written as u32,
-    }
+    })
 }

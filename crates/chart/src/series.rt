@@ -23,10 +23,9 @@ pub fn fill_series(cells: &mut [u16], count: usize, first: Order, m: u32) -> usi
     requires { SeriesFits (length cells.old) count first.at m }
     ensures { writing cells.new result ≡ put (series first m) (writing cells.old count) }
 {
-    let mut at = first.at as u32;
-    let end = at + m;
+    let start = first.at as u32;
     let mut done = count;
-    while at < end {
+    for at in start..start + m {
         let o = Order {
             code: first.code,
             r1: first.r1,
@@ -34,7 +33,6 @@ pub fn fill_series(cells: &mut [u16], count: usize, first: Order, m: u32) -> usi
             at: at as u16,
         };
         done = put_order(cells, done, o);
-        at += 1;
     }
     done
 }

@@ -15,30 +15,30 @@ returns-then-cells-ne0 c = rw (ne_eqb _ 0 c.if-cells-ne0.true)
 pub loop-code-init : goal.loop-code-init
 loop-code-init c =
     let a = c.args in
-    (omega arith, chart-start a.n (omega arith) a.rank (length a.cells.now / 4) a.cells.now)
+    chart-start a.n (omega arith) a.rank (length a.cells.now / 4) a.cells.now
 
 pub with_block-s-requires : goal.with_block-s-requires
 with_block-s-requires c =
     let at = c.loop-code in
     let a = c.args in
-    rw c.block_of.ensures (chart_fits a.n (omega arith) _ _ _ at.code c.loop-code-test.true at.cells at.s at.invariant.1 (omega arith))
+    rw c.block_of.ensures (chart_fits a.n (omega arith) _ _ _ at.code c.loop-code-test.true at.cells at.s at.invariant (omega arith))
 
 pub loop-code-preserved : goal.loop-code-preserved
 loop-code-preserved c =
     let at = c.loop-code in
     let a = c.args in
     let more = rw c.block_of.ensures at c.with_block-s.ensures in
-    (omega arith, chart_on a.n (omega arith) _ _ _ at.code c.loop-code-test.true at.cells at.s at.invariant.1 _ _ more)
+    chart_on a.n (omega arith) _ _ _ at.code c.loop-code-test.true at.cells at.s at.invariant _ _ more
 
 pub overflow_cast-result : goal.overflow_cast-result
-overflow_cast-result c = let at = c.loop-code in record { fits = omega (arith, at.invariant.1.counted, at.invariant.1.small) }
+overflow_cast-result c = let at = c.loop-code in record { fits = omega (arith, at.invariant.counted, at.invariant.small) }
 
 pub shape_of-cells : goal.shape_of-cells
-shape_of-cells c = c.loop-code.invariant.1.same
+shape_of-cells c = c.loop-code.invariant.same
 
 pub returns : goal.returns
 returns c =
     let at = c.loop-code in
     let a = c.args in
     let e : at.code ≡ 36 = omega (arith, c.loop-code-test.false) in
-    chart-answer a.n a.rank a.cells.now at.cells at.s (omega arith) (rw e at at.invariant.1)
+    chart-answer a.n a.rank a.cells.now at.cells at.s (omega arith) (rw e at at.invariant)

@@ -1,4 +1,4 @@
-use Prim.Native.Nat.{◌-◌, ◌/◌, ◌≤◌}
+use Prim.Native.Nat.{◌/◌}
 use lib.ListN.{length}
 use Rattle.chart.specs.Piece.{piece}
 use Rattle.chart.specs.Writing.{writing, put}
@@ -7,7 +7,4 @@ use Rattle.chart.proofs.listing.list.Given as goal
 
 abbrev pub invariant-loop-code : goal.invariant-loop-code
 invariant-loop-code l =
-    (l.code ≤ 36) × ChartLeft (put (piece l.n l.rank (length l.initial.cells / 4)) (writing l.initial.cells 0)) l.n (length l.initial.cells) (length l.initial.cells / 4) l.code l.cells l.s
-
-abbrev pub decreases-loop-code : goal.decreases-loop-code
-decreases-loop-code l = 36 - l.code
+    ChartLeft (put (piece l.n l.rank (length l.initial.cells / 4)) (writing l.initial.cells 0)) l.n (length l.initial.cells) (length l.initial.cells / 4) l.code l.cells l.s

@@ -14,10 +14,10 @@ loop-at-init c =
     let a = c.args in
     let fits = c.requires in
     let e : a.first.at + a.m - a.first.at ≡ a.m = omega arith in
-    (omega arith, record { same = refl; fits = record { room = omega (arith, fits.room); cells = omega (arith, fits.cells) }; puts = rw e })
+    record { same = refl; fits = record { room = omega (arith, fits.room); cells = omega (arith, fits.cells) }; puts = rw e }
 
 pub put_order-done-requires : goal.put_order-done-requires
-put_order-done-requires c = let r = c.loop-at.invariant.1 in omega (arith, r.fits.room, r.same)
+put_order-done-requires c = let r = c.loop-at.invariant in omega (arith, r.fits.room, r.same)
 
 pub loop-at-preserved : goal.loop-at-preserved
 loop-at-preserved c =
@@ -25,14 +25,14 @@ loop-at-preserved c =
     let at = entry.loop-at in
     let a = entry.args in
     let goal = put (series a.first a.m) (writing a.cells.now a.count) in
-    let on = series_on goal (length a.cells.now) a.first.code a.first.r1 a.first.r2 at.at (a.first.at + a.m) (writing at.cells at.done) entry.loop-at-test.true at.invariant.1 in
-    (omega arith, subst (λ (s : Writing). SeriesLeft goal (length a.cells.now) (order a.first.code a.first.r1 a.first.r2 (at.at + 1)) (a.first.at + a.m - (at.at + 1)) s) (sym c.put_order-done.ensures) on)
+    let on = series_on goal (length a.cells.now) a.first.code a.first.r1 a.first.r2 at.at (a.first.at + a.m) (writing at.cells at.done) entry.loop-at-test.true at.invariant in
+    subst (λ (s : Writing). SeriesLeft goal (length a.cells.now) (order a.first.code a.first.r1 a.first.r2 (at.at + 1)) (a.first.at + a.m - (at.at + 1)) s) (sym c.put_order-done.ensures) on
 
 pub shape_of-cells : goal.shape_of-cells
-shape_of-cells c = c.loop-at.invariant.1.same
+shape_of-cells c = c.loop-at.invariant.same
 
 pub returns : goal.returns
 returns c =
     let at = c.loop-at in
     let a = c.args in
-    series_end _ _ _ _ _ (omega (arith, c.loop-at-test.false)) at.invariant.1
+    series_end _ _ _ _ _ (omega (arith, c.loop-at-test.false)) at.invariant

@@ -1,4 +1,4 @@
-use Prim.Native.Nat.{◌-◌, ◌≤◌}
+use Prim.Native.Nat.{◌-◌, ◌+◌}
 use lib.ListN.{length}
 use Rattle.chart.specs.Block.{series}
 use Rattle.chart.specs.Chart.{order}
@@ -8,8 +8,4 @@ use Rattle.chart.proofs.series.fill_series.Given as goal
 
 abbrev pub invariant-loop-at : goal.invariant-loop-at
 invariant-loop-at l =
-    (l.at ≤ l.end)
-    × SeriesLeft (put (series l.first l.m) (writing l.initial.cells l.count)) (length l.initial.cells) (order l.first.code l.first.r1 l.first.r2 l.at) (l.end - l.at) (writing l.cells l.done)
-
-abbrev pub decreases-loop-at : goal.decreases-loop-at
-decreases-loop-at l = l.end - l.at
+    SeriesLeft (put (series l.first l.m) (writing l.initial.cells l.count)) (length l.initial.cells) (order l.first.code l.first.r1 l.first.r2 l.at) (l.first.at + l.m - l.at) (writing l.cells l.done)
