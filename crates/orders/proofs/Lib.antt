@@ -1,5 +1,6 @@
 pub mod Addresses
 pub mod Generals
 pub mod Passing
+pub mod Ranges
 pub mod Table
 pub mod Unindexed

@@ -1,5 +1,5 @@
 -- What is asked, each answer, and what is left behind (document 02, Job 13).
-use Rattle.std.specs.Prelude.{ℕ, ◌*◌, ◌≡◌, List}
+use Rattle.std.specs.Prelude.{Result, Ok, Err, ℕ, ◌*◌, ◌≡◌, List}
 use Rattle.hexfloat.specs.Answer.{Answer, gives, stops}
 use Rattle.protection.specs.Form.{ProtectList}
 use Rattle.machine.specs.Decide.{pointer_of}
@@ -7,7 +7,8 @@ use Rattle.machine.specs.Machine.{Machine}
 use Rattle.machine.specs.Run.{entry_of}
 use Rattle.machine.specs.Stops.{number_of}
 use Rattle.conditions.specs.Theorems.{KeptBelow}
-use Rattle.stretch.specs.declared.answer.Found.{Found}
+use Rattle.stretch.specs.declared.answer.Refusal.{Refusal}
+use Rattle.stretch.specs.declared.answer.Stretch as code
 use Rattle.stretch.specs.Jump.{HasJump}
 use Rattle.stretch.specs.Stretch.{Stretch, SixToEleven, Shortest}
 use Rattle.stretch.specs.Trial.{trial_from}
@@ -16,10 +17,13 @@ use Rattle.stretch.specs.Trial.{trial_from}
 abbrev pub stretch_of : ℕ → ℕ → ℕ → Stretch
 stretch_of first last stop = record { first = first; last = last; stop = stop }
 
-abbrev pub says_found : Found → Answer Stretch
-says_found (Found.Refused k) = stops (number_of k)
-says_found Found.Unsuited = stops 21
-says_found (Found.Stretch first last k) = gives (stretch_of first last (number_of k))
+abbrev pub refusal_number : Refusal → ℕ
+refusal_number (Refusal.Stopped k) = number_of k
+refusal_number Refusal.Unsuited = 21
+
+abbrev pub says_found : Result code.Stretch Refusal → Answer Stretch
+says_found (Ok s) = gives (stretch_of s.first s.last (number_of s.stop))
+says_found (Err r) = stops (refusal_number r)
 
 -- each answer, and when it is given: the first of checks 20, 1, 2 and 3 that does not pass; 21 for a jump in the deck, or a run that ends by anything but 6
 -- to 11; the shortest stretch

@@ -5,17 +5,5 @@ ghost use Rattle.stretch.specs.Jump.{SaysJump};
 pub fn has_jump(deck: &[u16]) -> bool
     ensures { SaysJump deck.now result }
 {
-    let count = deck.len() / 4;
-    let mut i: usize = 0;
-    while i < count {
-        let code = deck[i * 4];
-        if code == 20 {
-            return true;
-        }
-        if code == 21 {
-            return true;
-        }
-        i += 1;
-    }
-    false
+    (0..deck.len() / 4).any(|i| deck[i * 4] == 20 || deck[i * 4] == 21)
 }

@@ -10,5 +10,5 @@ mod restoring;
 mod search;
 mod trying;
 
-pub use answer::{Answer, Found};
+pub use answer::{Answer, Refusal, Stretch};
 pub use search::shortest;

@@ -7,7 +7,7 @@ ghost use Rattle.stretch.specs.Answer.{says_found, Answers, TakenBack, Asked};
 ghost use Rattle.stretch.specs.Jump.{HasJump};
 ghost use Rattle.stretch.specs.Search.{Latest};
 
-use crate::answer::{Answer, Found};
+use crate::answer::{Answer, Refusal, Stretch};
 use crate::jump::has_jump;
 use crate::trying::{run_and_return, stops_alike};
 use machine::State;
@@ -46,7 +46,7 @@ fn search(
     memory: &mut [u16],
     protect: &[u8],
     journal: &mut [u32],
-) -> Found
+) -> Result<Stretch, Refusal>
     requires { (entry_of deck.now (bitwise protect.now) seat (machine s memory.old journal.old) ≡ 0) × (HasJump deck.now → ⊥) }
     ensures { Answers deck.now (bitwise protect.now) seat (machine s memory.old journal.old) (says_found result)
         × TakenBack (machine s memory.old journal.old) (machine s memory.new journal.new) }
@@ -56,10 +56,10 @@ fn search(
     let stop = whole.stop;
     let number = machine::number(stop);
     if number < 6 {
-        return Found::Unsuited;
+        return Err(Refusal::Unsuited);
     }
     if 11 < number {
-        return Found::Unsuited;
+        return Err(Refusal::Unsuited);
     }
     let own = machine::registers_of(s, seat);
     let stopped = machine::registers_of(after, seat);
@@ -75,7 +75,7 @@ fn search(
         protect,
         journal,
     );
-    Found::Stretch { first, last, stop }
+    Ok(Stretch { first, last, stop })
 }
 
 // The shortest stretch of consecutive orders, from the pointer on to where the run stops, that still stops there by the same
@@ -92,7 +92,7 @@ pub fn shortest(
     ensures { Asked deck.now (bitwise protect.now) seat (machine s memory.old journal.old)
         (machine result.state memory.new journal.new) (says_found result.found) }
 {
-    let checks = machine::entry(
+    let checks = machine::admit(
         seat,
         s.seat0.status,
         s.seat1.status,
@@ -102,18 +102,17 @@ pub fn shortest(
         memory.len(),
         journal.len(),
     );
-    let number = machine::number(checks);
     let jump = has_jump(deck);
-    if number != 0 {
+    if let Err(stop) = checks {
         return Answer {
             state: s,
-            found: Found::Refused(checks),
+            found: Err(Refusal::Stopped(stop)),
         };
     }
     if jump {
         return Answer {
             state: s,
-            found: Found::Unsuited,
+            found: Err(Refusal::Unsuited),
         };
     }
     let found = search(s, seat, deck, memory, protect, journal);

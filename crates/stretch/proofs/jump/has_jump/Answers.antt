@@ -1,17 +1,15 @@
--- `stretch::jump::has_jump` meets its contract. The loop's invariant: no order passed so far is a jump. Assumes nothing.
-use native.Mathlib.Omega.{arith}
-use mathlib.Core.Logic.{inl, inr, ⊎_elim}
-use borrow.Author.Count.{below_more}
+-- `stretch::jump::has_jump` meets its contract: `any` goes through every order. Assumes nothing.
+use Rattle.std.proofs.Common.{◌/◌, ℕ, arith, refl, length, rules, tests}
+use Rattle.std.proofs.lemmas.Iterator.{cases_from_any, YieldsList-from_range}
+use Rattle.orders.proofs.Ranges.{any_below}
+use Rattle.stretch.specs.Jump.{IsJump}
+use Rattle.stretch.proofs.Answering.{jump_said}
 use Rattle.stretch.proofs.jump.has_jump.Goals as goal
 
-pub returns-then-code-eq20 : goal.returns-then-code-eq20
-returns-then-code-eq20 c = record { order = c.loop-i.i; inside = omega arith; jump = inl c.if-code-eq20.true }
-
-pub returns-then-code-eq21 : goal.returns-then-code-eq21
-returns-then-code-eq21 c = record { order = c.loop-i.i; inside = omega arith; jump = inr c.if-code-eq21.true }
-
-pub loop-i-preserved : goal.loop-i-preserved
-loop-i-preserved c = (omega arith, below_more _ _ c.loop-i.invariant.1 (⊎_elim c.if-code-eq20.false c.if-code-eq21.false))
-
 pub returns : goal.returns
-returns c = λ h. c.loop-i.invariant.1 h.order (omega (arith, h.inside)) h.jump
+returns c =
+    let d = c.args.deck.now in
+    let n = length d / 4 in
+    let no : ℕ → Type 0 = λ q. IsJump d q → ⊥ in
+    let cases = cases_from_any _ _ c.any.result (IsJump d) no c.any.ensures.ran (YieldsList-from_range 0 n n refl (omega arith)) (λ x q k. search (rules, tests)) (λ x q k. search (rules, tests)) in
+    jump_said d c.any.result (any_below (IsJump d) no n c.any.result cases)
