@@ -55,9 +55,7 @@ fn put_record(memory: &mut [u16], journal: &[u32], k: usize)
 pub fn restore(memory: &mut [u16], journal: &[u32], first: u32, count: u32)
     ensures { memory.new ≡ restored journal.now first count memory.old }
 {
-    let mut left = count as usize;
-    while 0 < left {
-        left -= 1;
-        put_record(memory, journal, first as usize + left);
+    for i in (0..count as usize).rev() {
+        put_record(memory, journal, first as usize + i);
     }
 }

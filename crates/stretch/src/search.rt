@@ -28,14 +28,13 @@ fn latest(
     ensures { Latest deck.now (bitwise protect.now) seat (machine s memory.old journal.old)
         (machine s memory.new journal.new) pointer last number result }
 {
-    let mut first = last;
-    while pointer < first {
+    for before in (pointer..last).rev() {
+        let first = before + 1;
         if stops_alike(s, seat, first, last, number, deck, memory, protect, journal) {
             return first;
         }
-        first -= 1;
     }
-    first
+    pointer
 }
 
 // The stretch in a deck without jumps, where the checks pass.

@@ -7,11 +7,11 @@ use Rattle.stretch.specs.Restore.{restored}
 use Rattle.stretch.proofs.Restored.{restored_on, restored_none}
 use Rattle.stretch.proofs.restoring.restore.Goals as goal
 
-pub loop-left-init : goal.loop-left-init
-loop-left-init c = (refl, omega arith, refl)
+pub loop-i-init : goal.loop-i-init
+loop-i-init c = (refl, refl)
 
-pub loop-left-preserved : goal.loop-left-preserved
-loop-left-preserved c = (c.loop-left.invariant.0 ∙ restored_on _ _ _ _ c.loop-left-test.true ∙ ap (restored _ _ _) (sym c.put_record.ensures), search rules, search rules)
+pub loop-i-preserved : goal.loop-i-preserved
+loop-i-preserved c = (c.loop-i.invariant.0 ∙ restored_on _ _ _ _ c.loop-i-test.true ∙ ap (restored _ _ _) (sym c.put_record.ensures), search rules)
 
 pub returns : goal.returns
-returns c = sym (c.loop-left.invariant.0 ∙ restored_none _ _ _ _ (omega arith))
+returns c = sym (c.loop-i.invariant.0 ∙ restored_none _ _ _ _ (omega arith))
