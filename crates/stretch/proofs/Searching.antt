@@ -138,7 +138,7 @@ module _ (d : List ℕ) (p : ProtectList) (k : ℕ) (s : State) (m j n l : List 
       cases f true e here above below = rw (eqb-true f first e) here
       cases f false e here above below = let other = eqb-false f first e in sought.none f (omega arith) below
 
-  pub sought_here :
+  sought_here :
       {z : Machine} {alike : Bool} {pointer : ℕ} → pointer < first → alike ≡ true → Tried d p k (machine s n l) z last stop first alike →
       Latest d p k (machine s m j) z pointer last stop first
   sought_here {z} {alike} above holds tried = record {
@@ -148,6 +148,13 @@ module _ (d : List ℕ) (p : ProtectList) (k : ℕ) (s : State) (m j n l : List 
     none = sought.none;
     left = left_then sought.left tried.left;
   }
+
+  pub sought_at :
+      {z : Machine} {alike : Bool} {pointer f : ℕ} → f ≡ first → pointer < first → alike ≡ true → Tried d p k (machine s n l) z last stop f alike →
+      Latest d p k (machine s m j) z pointer last stop f
+  sought_at {z} {alike} {pointer} e above holds tried =
+      subst (λ (i : ℕ). Latest d p k (machine s m j) z pointer last stop i) (sym e)
+      (sought_here above holds (subst (λ (i : ℕ). Tried d p k (machine s n l) z last stop i alike) e tried))
 
   pub sought_end : {pointer : ℕ} → pointer ≤ first → first ≤ pointer → Latest d p k (machine s m j) (machine s n l) pointer last stop first
   sought_end above below = record { within = sought.within; least = above; alike = λ h. absurd (omega arith); none = sought.none; left = sought.left }
