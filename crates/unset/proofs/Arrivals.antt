@@ -1,8 +1,8 @@
 -- What arrives at a place: its word, and the words of all others.
-use Prim.Native.Nat.{ℕ, ◌+◌, ◌*◌, ◌^◌, ◌<◌, ◌≤◌}
+use Prim.Native.Nat.{ℕ, ◌*◌, ◌^◌, ◌<◌, ◌≤◌}
 use mathlib.Core.Path.{◌≡◌, refl, sym, ap, subst, ◌∙◌}
 use mathlib.Core.List.Memᴰ
-use mathlib.Core.List.{List, [], ◌∷◌, Memᴰ}
+use mathlib.Core.List.{List, [], ◌∷◌, ◌++◌, Memᴰ}
 use mathlib.Core.Logic.{⊎_elim}
 use mathlib.Core.Bool.{Bool, true, false, cond, ◌||◌, or-true}
 use lib.Bits.{bit_or}
@@ -13,7 +13,8 @@ use native.Mathlib.Omega.{arith}
 use borrow.Author.Tests.{eqb-true, eqb-false, ltb-true, ltb-false}
 use Rattle.unset.specs.declared.path.Point.{Point}
 use Rattle.unset.specs.Bits.{in_word}
-use Rattle.unset.specs.Search.{Search, search_of, word_at, waits, pushed, arrived, reached, reached_all, index_of, Stacked}
+use Rattle.unset.specs.declared.search.Search.{Search}
+use Rattle.unset.specs.Search.{search_of, word_at, waits, pushed, arrived, reached, reached_all, index_of, Stacked}
 use Rattle.unset.proofs.Gains.{left, left_arrived}
 use Rattle.unset.proofs.Stack.{stacked-arrived}
 use Rattle.unset.proofs.Words.{never_both, in_or}
@@ -51,8 +52,8 @@ came i b s there flag = cases (eqb union old) (waits s i) refl refl
     after : Bool → Bool → Search
     after same waiting =
         cond same s
-        (cond waiting (search_of (set s.unwritten i union) s.waiting s.stack s.top)
-        (search_of (set s.unwritten i union) (set s.waiting i true) (set s.stack s.top i) (s.top + 1)))
+        (cond waiting (search_of (set s.unwritten i union) s.waiting s.stack.items)
+        (search_of (set s.unwritten i union) (set s.waiting i true) (s.stack.items ++ i ∷ [])))
 
     -- another place, where the flags of place i say that it waits
     elsewhere : (flags : List Bool) (j : ℕ) → get_or flags i false ≡ true → get_or flags j false ≡ false → j ≡ i → ⊥

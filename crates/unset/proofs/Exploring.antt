@@ -16,12 +16,13 @@ use Rattle.machine.specs.Uses.{written_by}
 use Rattle.unset.specs.declared.path.Point.{Point}
 use Rattle.unset.specs.Bits.{register_of, in_word, bits_of, all, without}
 use Rattle.unset.specs.Path.{start, nexts, OrderAt, Writes, Leads, Path, begins, goes, Along, ReachedUnwritten}
-use Rattle.unset.specs.Search.{Search, search_of, word_at, waits, stacked, reached, popped, index_of, point_at, places, trues, Stacked, TakenUp, Zeros, Explored}
+use Rattle.unset.specs.declared.search.Search.{Search}
+use Rattle.unset.specs.Search.{search_of, word_at, waits, stacked, reached, popped, index_of, point_at, places, trues, Stacked, TakenUp, Explored, top}
 use Rattle.unset.proofs.Arrivals.{Reached, reached_one, reached-all}
 use Rattle.unset.proofs.Points.{point_back, place_back, next_small, path_small}
 use Rattle.unset.proofs.Registers.{numbered, proper_written}
 use Rattle.unset.proofs.Gains.{left, left_calm, left_popped}
-use Rattle.unset.proofs.Stack.{none_waits, stacked-popped}
+use Rattle.unset.proofs.Stack.{none_waits, stacked-popped, Popped}
 use Rattle.unset.proofs.Words.{never_both, in_without, in_zero, in_all, bits_only, bits_every, bits_small, without_small}
 
 abbrev orders : List ℕ → ℕ
@@ -134,12 +135,12 @@ pub record Onward (d : List ℕ) (s t : Search) : Type 0 where
   pub inv : Searching d t
   pub less : left t < left s
 
-pub searching_on :
-    (d : List ℕ) (s t : Search) → Searching d s → 0 < s.top → TakenUp d (stacked s (s.top - 1)) (popped s) t → Onward d s t
+searching_on :
+    (d : List ℕ) (s t : Search) → Searching d s → 0 < top s → TakenUp d (stacked s (top s - 1)) (popped s) t → Onward d s t
 searching_on d s t inv some up =
-    let i = stacked s (s.top - 1) in
+    let i = stacked s (top s - 1) in
     let stack = stacked-popped (orders d) s inv.stack some in
-    let inside = inv.stack.inside (s.top - 1) (omega arith) in
+    let inside = inv.stack.inside (top s - 1) (omega arith) in
     let got = after d inv.few i inside (popped s) t up stack in
     record {
       inv = record {
@@ -153,24 +154,27 @@ searching_on d s t inv some up =
       less = omega (arith, got.less, left_popped s some);
     }
 
+-- as the code takes it from the stack
+pub searching_popped : (d : List ℕ) (s u t : Search) (i : ℕ) → Searching d s → Popped s u i → TakenUp d i u t → Onward d s t
+searching_popped d s u t i inv p up =
+    searching_on d s t inv p.some (subst (λ (k : ℕ). TakenUp d k (popped s) t) (sym p.last) (subst (λ (v : Search). TakenUp d i v t) p.left up))
+
 -- nothing is found yet, and nothing waits
 pub record Blank (s : Search) : Type 0 where
   pub words : length s.unwritten ≡ places
   pub flags : length s.waiting ≡ places
-  pub cells : length s.stack ≡ places
   pub zeros : (i : ℕ) → word_at s i ≡ 0
   pub calm : trues s.waiting ≡ 0
-  pub top : s.top ≡ 0
+  pub empty : top s ≡ 0
 
 pub blank-stacked : (n : ℕ) (s : Search) → Blank s → Stacked n s
 blank-stacked n s o = record {
   words = o.words;
   flags = o.flags;
-  cells = o.cells;
-  count = o.calm ∙ sym o.top;
-  wait = λ j h. absurd (omega (arith, o.top));
-  once = λ j k h l. absurd (omega (arith, o.top));
-  inside = λ j h. absurd (omega (arith, o.top));
+  count = o.calm ∙ sym o.empty;
+  wait = λ j h. absurd (omega (arith, o.empty));
+  once = λ j k h l. absurd (omega (arith, o.empty));
+  inside = λ j h. absurd (omega (arith, o.empty));
   small = λ i. rw (o.zeros i) (omega arith);
 }
 
@@ -185,17 +189,13 @@ unfolding trues
 filled_calm zero = refl
 filled_calm (suc m) = filled_calm m
 
-pub zeros : (m : ℕ) → m ≡ places → Zeros (replicate m 0)
-zeros m e = record { words = length-replicate m 0 ∙ e; zeros = λ i. filled_at m i 0 }
-
-pub blank : (u : List ℕ) (m : ℕ) → Zeros u → m ≡ places → Blank (search_of u (replicate m false) (replicate m 0) 0)
-blank u m z e = record {
-  words = z.words;
+pub blank : (m : ℕ) → m ≡ places → Blank (search_of (replicate m 0) (replicate m false) [])
+blank m e = record {
+  words = length-replicate m 0 ∙ e;
   flags = length-replicate m false ∙ e;
-  cells = length-replicate m 0 ∙ e;
-  zeros = z.zeros;
+  zeros = λ i. filled_at m i 0;
   calm = filled_calm m;
-  top = refl;
+  empty = refl;
 }
 
 -- all registers arrive at the start
@@ -220,13 +220,13 @@ searching_starts d s few o =
 -- no more places will be taken up than places times registers
 pub few_turns : (d : List ℕ) (s : Search) → orders d ≤ 4096 → Blank s → left (reached (orders d) start all s) ≤ places * 24
 few_turns d s few o =
-    omega (arith, (reached_one (orders d) all few (omega arith) start s (omega arith) (blank-stacked (orders d) s o)).less, left_calm s o.top)
+    omega (arith, (reached_one (orders d) all few (omega arith) start s (omega arith) (blank-stacked (orders d) s o)).less, left_calm s o.empty)
 
 -- ---- nothing waits any more
 
 -- what a path reaches unwritten was found
 complete :
-    (d : List ℕ) (s : Search) → Searching d s → s.top ≡ 0 → (k : ℕ) → k < 24 → {x : Point} (p : Path d x) → Along d (register_of k) p → x.order < orders d →
+    (d : List ℕ) (s : Search) → Searching d s → top s ≡ 0 → (k : ℕ) → k < 24 → {x : Point} (p : Path d x) → Along d (register_of k) p → x.order < orders d →
     in_word k (word_at s (index_of x)) ≡ true
 complete d s inv end k l begins a h = inv.started (omega arith) k l
 complete d s inv end k l (goes {x} {y} p lead) a h =
@@ -235,7 +235,7 @@ complete d s inv end k l (goes {x} {y} p lead) a h =
     inv.closed (index_of x) (none_waits (orders d) s inv.stack end (index_of x)) y k l
     (subst (λ (z : Point). Leads d z y) (sym x-back) lead) h (λ w. a.1 (subst (λ (z : Point). Writes d z (register_of k)) x-back w)) before
 
-pub searching_ends : (d : List ℕ) (s : Search) → Searching d s → s.top ≡ 0 → Explored d s.unwritten
+pub searching_ends : (d : List ℕ) (s : Search) → Searching d s → top s ≡ 0 → Explored d s.unwritten
 searching_ends d s inv end = record {
   only = λ i k l h. inv.sound i k h l;
   every = λ i k h l r.

@@ -9,10 +9,12 @@ use lib.Bits.{bit_or, or_step}
 use lib.Count.{ones, ones_step, ones-le}
 use lib.Dec.{eqb}
 use lib.ListN.{length, get_or, set, length-set}
+use Rattle.std.proofs.lemmas.List.{length-take-le}
 use native.Mathlib.Nat.{pow-suc}
 use native.Mathlib.Omega.{arith}
 use borrow.Author.Tests.{eqb-false}
-use Rattle.unset.specs.Search.{places, Search, word_at, pushed, arrived, popped, Stacked}
+use Rattle.unset.specs.declared.search.Search.{Search}
+use Rattle.unset.specs.Search.{places, word_at, pushed, arrived, popped, Stacked, top}
 use Rattle.unset.proofs.Stack.{joined, stacked-joined, pushed_words, pushed_top}
 
 -- how many bits some words have
@@ -22,15 +24,15 @@ gained (w ∷ ws) = ones w + gained ws
 
 -- of 24 bits a place
 unfoldable pub left : Search → ℕ
-left s = (places * 24 - gained s.unwritten) + s.top
+left s = (places * 24 - gained s.unwritten) + top s
 
 -- a place is taken from the stack
-pub left_popped : (s : Search) → 0 < s.top → left (popped s) < left s
+pub left_popped : (s : Search) → 0 < top s → left (popped s) < left s
 unfolding left
-left_popped s h = omega arith
+left_popped s h = omega (arith, length-take-le (top s - 1) s.stack.items (omega arith))
 
 -- where nothing waits
-pub left_calm : (s : Search) → s.top ≡ 0 → left s ≤ places * 24
+pub left_calm : (s : Search) → top s ≡ 0 → left s ≤ places * 24
 unfolding left
 left_calm s e = omega arith
 

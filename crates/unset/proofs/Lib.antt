@@ -7,6 +7,7 @@ pub mod Gains
 pub mod Arrivals
 pub mod Taken
 pub mod Exploring
+pub mod Legalities
 pub mod Lowest
 pub mod Along
 pub mod Among

@@ -12,7 +12,8 @@ use Rattle.orders.specs.Order.{order_at, legal_of, is_halt, is_jump}
 use Rattle.machine.specs.Uses.{written_by}
 use Rattle.unset.specs.Bits.{bits_of, without}
 use Rattle.unset.specs.Path.{point, selector_after, nexts}
-use Rattle.unset.specs.Search.{Search, word_at, reached, reached_all, Stacked, TakenUp}
+use Rattle.unset.specs.declared.search.Search.{Search}
+use Rattle.unset.specs.Search.{word_at, reached, reached_all, Stacked, TakenUp}
 use Rattle.unset.proofs.Arrivals.{reached_one}
 use Rattle.unset.proofs.Points.{may_jump_lem}
 use Rattle.unset.proofs.Registers.{numbered, proper_written}

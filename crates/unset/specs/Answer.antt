@@ -1,12 +1,13 @@
 -- What is asked of a deck, and each answer (document 02, Job 11).
-use Rattle.std.specs.Prelude.{ℕ, ◌+◌, ◌/◌, ◌<◌, ◌≡◌, List, true, false, length}
+use Rattle.std.specs.Prelude.{Option, Some, None, Result, Ok, Err, ℕ, ◌+◌, ◌/◌, ◌<◌, ◌≡◌, List, true, false, length}
 use Rattle.hexfloat.specs.Answer.{Answer, gives, stops}
 use Rattle.orders.specs.declared.order.Operation.{Operation}
 use Rattle.orders.specs.General.{general_cell}
 use Rattle.orders.specs.Order.{order_at, legal_of}
 use Rattle.machine.specs.Check.{deck_sized}
 use Rattle.machine.specs.Uses.{Register, float, general}
-use Rattle.unset.specs.declared.answer.Found.{Found}
+use Rattle.unset.specs.declared.answer.Refusal.{Refusal}
+use Rattle.unset.specs.declared.answer.Unset.{Unset}
 use Rattle.unset.specs.declared.answer.Register as code
 use Rattle.unset.specs.Path.{point, Reads, ReachedUnwritten}
 
@@ -55,8 +56,14 @@ says_register (code.Register.Float r) = float r
 says_register (code.Register.Set0 r) = general 0 r
 says_register (code.Register.Set1 r) = general 1 r
 
-abbrev pub says_found : Found → Answer Finding
-says_found Found.DeckSize = stops 1
-says_found Found.IllegalOrder = stops 5
-says_found Found.Nothing = gives nothing
-says_found (Found.Unset p r) = gives (unset p (says_register r))
+abbrev pub says_unset : Option Unset → Finding
+says_unset None = nothing
+says_unset (Some u) = unset u.order (says_register u.register)
+
+abbrev pub refusal_number : Refusal → ℕ
+refusal_number Refusal.DeckSize = 1
+refusal_number Refusal.IllegalOrder = 5
+
+abbrev pub says_found : Result (Option Unset) Refusal → Answer Finding
+says_found (Ok u) = gives (says_unset u)
+says_found (Err r) = stops (refusal_number r)

@@ -1,6 +1,6 @@
 // What the tool answers.
 ghost use Rattle.std.specs.Prelude.{◌≡◌, ◌<◌};
-ghost use Rattle.unset.specs.Answer.{says_register};
+ghost use Rattle.unset.specs.Answer.{refusal_number, says_register};
 ghost use Rattle.unset.specs.Bits.{register_of};
 
 // A register with its number in its kind.
@@ -11,16 +11,29 @@ pub enum Register {
     Set1(u32),
 }
 
+// The deck's cells are no multiple of 4, or too many; or some order of it is not legal, reached or not.
 #[derive(Clone, Copy)]
-pub enum Found {
-    // The deck's cells are no multiple of 4, or too many: number 1.
+pub enum Refusal {
     DeckSize,
-    // Some order of it is not legal, reached or not: number 5.
     IllegalOrder,
-    // No order reads a register that a path reaches unwritten.
-    Nothing,
-    // The order, and the register that it reads.
-    Unset(u32, Register),
+}
+
+impl From<Refusal> for u8 {
+    ghost from_gives = { λ r n. n ≡ refusal_number r };
+
+    fn from(r: Refusal) -> u8 {
+        match r {
+            Refusal::DeckSize => 1,
+            Refusal::IllegalOrder => 5,
+        }
+    }
+}
+
+// An order, and the register that it reads and that a path reaches unwritten.
+#[derive(Clone, Copy)]
+pub struct Unset {
+    pub order: u32,
+    pub register: Register,
 }
 
 // Register k of the 24: the floats, set 0, set 1.

@@ -13,5 +13,5 @@ mod path;
 mod search;
 mod uses;
 
-pub use answer::{Found, Register};
+pub use answer::{Refusal, Register, Unset};
 pub use finding::first_unset;

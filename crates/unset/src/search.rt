@@ -3,14 +3,25 @@
 ghost use Rattle.std.specs.Prelude.{◌≡◌, ◌≤◌};
 ghost use Rattle.unset.specs.Answer.{Checked};
 ghost use Rattle.unset.specs.Bits.{without};
-ghost use Rattle.unset.specs.Search.{search_of, arrived, reached, Arriving, Stacked, Takeable, TakenUp, Zeros, Explored};
+ghost use Rattle.unset.specs.Search.{arrived, reached, Arriving, Stacked, Takeable, TakenUp, Explored};
 
 use crate::path::{Point, index, selector_after};
 use crate::uses::written;
-use orders::Legality;
+use arrayvec::ArrayVec;
 
 // All 24 registers: nothing is written where a path starts.
 const ALL: u32 = 16777215;
+
+const PLACES: usize = 8192;
+
+// For each place the registers that reach it unwritten, and whether it waits to be taken up; the places that
+// wait, on a stack.
+#[derive(Drop)]
+pub struct Search {
+    pub unwritten: [u32; PLACES],
+    pub waiting: [bool; PLACES],
+    pub stack: ArrayVec<u16, PLACES>,
+}
 
 // The bits that are not written.
 #[tactic(auto, unfolding(crate::specs::Bits::without))]
@@ -22,107 +33,84 @@ fn unwritten_of(bits: u32, written: u32) -> u32
 
 // Some registers arrive at a place unwritten. It waits to be taken up if it gains one.
 #[tactic(auto, unfolding(crate::specs::Search::arrived, crate::specs::Search::pushed))]
-fn arrive(
-    unwritten: &mut [u32; 8192],
-    waiting: &mut [bool; 8192],
-    stack: &mut [u16; 8192],
-    top: usize,
-    place: usize,
-    bits: u32,
-) -> usize
-    requires { Arriving (search_of unwritten.old waiting.old stack.old top) place }
-    ensures { search_of unwritten.new waiting.new stack.new result ≡ arrived place bits (search_of unwritten.old waiting.old stack.old top) }
+fn arrive(search: &mut Search, place: usize, bits: u32)
+    requires { Arriving search.old place }
+    ensures { search.new ≡ arrived place bits search.old }
 {
-    let old = unwritten[place];
+    let old = search.unwritten[place];
     let union = old | bits;
     if union == old {
-        return top;
+        return;
     }
-    unwritten[place] = union;
-    if waiting[place] {
-        return top;
+    search.unwritten[place] = union;
+    if search.waiting[place] {
+        return;
     }
-    waiting[place] = true;
-    stack[top] = place as u16;
-    top + 1
+    search.waiting[place] = true;
+    search.stack.push(place as u16);
 }
 
 // The same at a point, in a deck of so many orders. A path ends past its end.
-fn reach(
-    unwritten: &mut [u32; 8192],
-    waiting: &mut [bool; 8192],
-    stack: &mut [u16; 8192],
-    top: usize,
-    orders: u32,
-    x: Point,
-    bits: u32,
-) -> usize
-    requires { Stacked orders (search_of unwritten.old waiting.old stack.old top) × (orders ≤ 4096) × (x.selector ≤ 1) }
-    ensures { search_of unwritten.new waiting.new stack.new result ≡ reached orders x bits (search_of unwritten.old waiting.old stack.old top) }
+fn reach(search: &mut Search, orders: u32, x: Point, bits: u32)
+    requires { Stacked orders search.old × (orders ≤ 4096) × (x.selector ≤ 1) }
+    ensures { search.new ≡ reached orders x bits search.old }
 {
-    if orders <= x.order {
-        return top;
+    if x.order < orders {
+        arrive(search, index(x), bits);
     }
-    arrive(unwritten, waiting, stack, top, index(x), bits)
 }
 
 // A place is taken up: what reaches it unwritten, less what its order writes, reaches the points after it.
-fn take_up(
-    deck: &[u16],
-    unwritten: &mut [u32; 8192],
-    waiting: &mut [bool; 8192],
-    stack: &mut [u16; 8192],
-    top: usize,
-    place: usize,
-) -> usize
-    requires { Takeable deck.now (search_of unwritten.old waiting.old stack.old top) place }
-    ensures { TakenUp deck.now place (search_of unwritten.old waiting.old stack.old top) (search_of unwritten.new waiting.new stack.new result) }
+fn take_up(deck: &[u16], search: &mut Search, place: usize)
+    requires { Takeable deck.now search.old place }
+    ensures { TakenUp deck.now place search.old search.new }
 {
     let orders = (deck.len() / 4) as u32;
     let order = (place / 2) as u32;
     let selector = (place % 2) as u32;
     let o = orders::order_at(deck, order as u16);
-    let found = orders::legal(o);
-    let Legality::Legal(op) = found else {
-        return top;
+    let Some(op) = orders::legal(o) else {
+        return;
     };
     let verb = op.verb;
     if orders::halts(verb) {
-        return top;
+        return;
     }
-    let bits = unwritten_of(unwritten[place], written(op, o, selector));
+    let bits = unwritten_of(search.unwritten[place], written(op, o, selector));
     let on = Point {
         order: order + 1,
         selector: selector_after(verb, o, selector),
     };
-    let next = reach(unwritten, waiting, stack, top, orders, on, bits);
+    reach(search, orders, on, bits);
     if orders::jumps(verb) {
         let to = Point {
             order: o.at as u32,
             selector,
         };
-        return reach(unwritten, waiting, stack, next, orders, to, bits);
+        reach(search, orders, to, bits);
     }
-    next
 }
 
-// Which registers reach each place unwritten, into words that are 0.
-pub fn explore(deck: &[u16], unwritten: &mut [u32; 8192])
-    requires { Checked deck.now × Zeros unwritten.old }
-    ensures { Explored deck.now unwritten.new }
+// Which registers reach each place unwritten.
+pub fn explore(deck: &[u16]) -> [u32; PLACES]
+    requires { Checked deck.now }
+    ensures { Explored deck.now result }
 {
     let orders = (deck.len() / 4) as u32;
-    let mut waiting: [bool; 8192] = [false; 8192];
-    let mut stack: [u16; 8192] = [0; 8192];
+    let mut search = Search {
+        unwritten: [0; PLACES],
+        waiting: [false; PLACES],
+        stack: ArrayVec::new(),
+    };
     let start = Point {
         order: 0,
         selector: 0,
     };
-    let mut top = reach(unwritten, &mut waiting, &mut stack, 0, orders, start, ALL);
-    while 0 < top {
-        top -= 1;
-        let place = stack[top] as usize;
-        waiting[place] = false;
-        top = take_up(deck, unwritten, &mut waiting, &mut stack, top, place);
+    reach(&mut search, orders, start, ALL);
+    while let Some(place) = search.stack.pop() {
+        let i = place as usize;
+        search.waiting[i] = false;
+        take_up(deck, &mut search, i);
     }
+    search.unwritten
 }

@@ -1,25 +1,18 @@
--- `unset::finding::all_legal` meets its contract. The loop's invariant: every order passed is legal. The measure is what is left of the deck.
+-- `unset::finding::all_legal` meets its contract: `all` goes through every order.
 -- Assumes nothing.
-use mathlib.Core.Path.{subst}
-use native.Mathlib.Omega.{arith}
-use borrow.Author.Count.{below_more}
-use Rattle.unset.specs.Finding.{SaysLegal}
+use Rattle.std.proofs.Common.{◌≡◌, ◌/◌, ℕ, arith, refl, length, rules, tests}
+use Rattle.std.proofs.lemmas.Iterator.{cases_from_all, YieldsList-from_range}
+use Rattle.hexfloat.specs.Answer.{stops}
+use Rattle.orders.specs.Order.{order_at, legal_of}
+use Rattle.orders.proofs.Ranges.{every_below}
+use Rattle.unset.specs.Answer.{Legal}
+use Rattle.unset.proofs.Legalities.{says_all_legal}
 use Rattle.unset.proofs.finding.all_legal.Goals as goal
 
-pub loop-p-init : goal.loop-p-init
-loop-p-init c = (omega arith, λ q l. absurd (omega arith))
-
-pub returns-then-not-is_legal : goal.returns-then-not-is_legal
-returns-then-not-is_legal c =
-    let at = c.loop-p in
-    let said = c.is_legal in
-    record { order = at.p; inside = omega arith; illegal = subst (SaysLegal c.args.deck.now at.p) c.if-not-is_legal.true said.ensures }
-
-pub loop-p-preserved : goal.loop-p-preserved
-loop-p-preserved c =
-    let at = c.loop-p in
-    let said = c.is_legal in
-    (omega arith, below_more _ _ at.invariant.1 (subst (SaysLegal c.args.deck.now at.p) c.if-not-is_legal.false said.ensures))
-
 pub returns : goal.returns
-returns c = λ p l. c.loop-p.invariant.1 p (omega arith)
+returns c =
+    let d = c.args.deck.now in
+    let n = length d / 4 in
+    let no : ℕ → Type 0 = λ p. legal_of (order_at d p) ≡ stops 5 in
+    let cases = cases_from_all _ _ c.all.result (Legal d) no c.all.ensures.ran (YieldsList-from_range 0 n n refl (omega arith)) (λ x q k. search (rules, tests)) (λ x q k. search (rules, tests)) in
+    says_all_legal d c.all.result (every_below (Legal d) no n c.all.result cases)

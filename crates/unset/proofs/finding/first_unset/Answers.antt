@@ -1,9 +1,8 @@
 -- `unset::finding::first_unset` meets its contract: checks 1 and 5, and what the search finds.
 -- Assumes nothing.
-use mathlib.Core.Path.{refl, sym, subst, ◌∙◌}
+use mathlib.Core.Path.{sym, subst, ◌∙◌}
 use Rattle.unset.specs.Answer.{Answers, Checked}
 use Rattle.unset.specs.Finding.{SaysAllLegal}
-use Rattle.unset.proofs.Exploring.{zeros}
 use Rattle.unset.proofs.Sized.{few_cells}
 use Rattle.unset.proofs.finding.first_unset.Goals as goal
 use Rattle.unset.proofs.finding.first_unset.Goals.{Else-not-all_legal}
@@ -31,8 +30,8 @@ checked c =
       legal = subst (SaysAllLegal _) (c.if-not-all_legal.false) said.ensures;
     }
 
-pub explore-requires : goal.explore-requires
-explore-requires c = (checked (goal.at.explore-requires c).Else-not-all_legal, zeros 8192 refl)
+pub explore-unwritten-requires : goal.explore-unwritten-requires
+explore-unwritten-requires c = checked (goal.at.explore-unwritten-requires c).Else-not-all_legal
 
 pub lowest-requires : goal.lowest-requires
-lowest-requires c = record { checked = checked (goal.at.lowest-requires c).Else-not-all_legal; explored = c.explore.ensures }
+lowest-requires c = record { checked = checked (goal.at.lowest-requires c).Else-not-all_legal; explored = c.explore-unwritten.ensures }

@@ -1,18 +1,12 @@
 -- `unset::finding::is_legal` meets its contract: by what check 5 answers.
 -- Assumes nothing.
-use mathlib.Core.Path.{sym, ap, ◌∙◌}
-use Rattle.orders.specs.Order.{legal_of, says_legality}
+use mathlib.Core.Path.{sym, ap, subst, ◌∙◌}
+use Rattle.orders.specs.Order.{legal_of}
+use Rattle.unset.specs.Finding.{SaysLegal}
+use Rattle.unset.proofs.Legalities.{says_legal}
 use Rattle.unset.proofs.finding.is_legal.Goals as goal
 
-pub returns-in-Legal : goal.returns-in-Legal
-returns-in-Legal c =
-    let read = c.order_at.ensures in
-    record {
-      operation = c.in-Legal.field-0;
-      legal = ap legal_of (sym read) ∙ sym c.legal-found.ensures ∙ ap says_legality c.in-Legal.is;
-    }
-
-pub returns-in-Illegal : goal.returns-in-Illegal
-returns-in-Illegal c =
-    let read = c.order_at.ensures in
-    ap legal_of (sym read) ∙ sym c.legal-found.ensures ∙ ap says_legality c.in-Illegal.is
+pub returns : goal.returns
+returns c =
+    subst (SaysLegal c.args.deck.now c.args.p) (sym c.is_some.ensures)
+    (says_legal c.args.deck.now c.args.p c.legal.result (c.legal.ensures ∙ ap legal_of c.order_at.ensures))

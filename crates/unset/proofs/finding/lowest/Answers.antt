@@ -10,39 +10,36 @@ use Rattle.unset.proofs.finding.lowest.Goals as goal
 pub overflow_cast-orders : goal.overflow_cast-orders
 overflow_cast-orders c = record { fits = omega (arith, few_cells _ c.requires.checked.sized) }
 
-pub loop-p-init : goal.loop-p-init
-loop-p-init c = (omega arith, λ q l. absurd (omega arith))
+pub loop-order-init : goal.loop-order-init
+loop-order-init c = λ q l. absurd (omega arith)
 
 pub unset_bits-bits-requires : goal.unset_bits-bits-requires
-unset_bits-bits-requires c = (c.requires, c.loop-p-test.true)
+unset_bits-bits-requires c = (c.requires, c.loop-order-test.true)
 
 pub lowest_bit-requires : goal.lowest_bit-requires
 lowest_bit-requires c =
     let start = c in
-    (omega (arith, c.if-bits-ne0.true), unset_small _ _ _ _ start.requires c.loop-p-test.true c.unset_bits-bits.ensures)
+    (omega (arith, c.if-bits-ne0.true), unset_small _ _ _ _ start.requires c.loop-order-test.true c.unset_bits-bits.ensures)
 
-pub register_of-requires : goal.register_of-requires
-register_of-requires c = c.lowest_bit.ensures.small
+pub register_of-register-requires : goal.register_of-register-requires
+register_of-register-requires c = c.lowest_bit.ensures.small
 
 pub returns-then-bits-ne0 : goal.returns-then-bits-ne0
 returns-then-bits-ne0 c =
     let at = c in
     let found = at.requires in
-    let inside = c.loop-p-test.true in
+    let inside = c.loop-order-test.true in
     let bits = c.unset_bits-bits.ensures in
-    let low = unset_lowest _ _ _ _ found inside bits _ c.lowest_bit.ensures at.loop-p.invariant.1 in
-    rw c.register_of.ensures (Answers.lowest found.checked low)
+    let low = unset_lowest _ _ _ _ found inside bits _ c.lowest_bit.ensures at.loop-order.invariant in
+    rw c.register_of-register.ensures (Answers.lowest found.checked low)
 
-pub overflow_add-p : goal.overflow_add-p
-overflow_add-p c = record { fits = omega (arith, few_cells _ c.requires.checked.sized) }
-
-pub loop-p-preserved : goal.loop-p-preserved
-loop-p-preserved c =
+pub loop-order-preserved : goal.loop-order-preserved
+loop-order-preserved c =
     let at = c in
-    let none = unset_none _ _ _ _ at.requires c.loop-p-test.true c.unset_bits-bits.ensures c.if-bits-ne0.false in
-    (omega arith, below_more _ _ at.loop-p.invariant.1 none)
+    let none = unset_none _ _ _ _ at.requires c.loop-order-test.true c.unset_bits-bits.ensures c.if-bits-ne0.false in
+    below_more _ _ at.loop-order.invariant none
 
 pub returns : goal.returns
 returns c =
     let found = c.requires in
-    Answers.none found.checked (λ q t r. c.loop-p.invariant.1 q (omega (arith, r.reads.here.inside)) t r)
+    Answers.none found.checked (λ q t r. c.loop-order.invariant q (omega (arith, r.reads.here.inside)) t r)

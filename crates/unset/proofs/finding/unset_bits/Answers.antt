@@ -16,20 +16,20 @@ returns-in_default c =
     let start = c in
     let read = c.order_at-o.ensures in
     let passes = (start.requires.0.checked.legal start.args.p start.requires.1).legal in
-    never (sym (ap says_legality c.in_default.is) ∙ c.legal-found.ensures ∙ ap legal_of read ∙ passes)
+    never (sym (ap says_legality c.in_default.is) ∙ c.legal.ensures ∙ ap legal_of read ∙ passes)
 
 pub read-requires : goal.read-requires
 read-requires c =
-    let told = c.legal-found.ensures in
-    numbered _ _ 0 (sym told ∙ ap says_legality c.in-Legal.is) (omega arith)
+    let told = c.legal.ensures in
+    numbered _ _ 0 (sym told ∙ ap says_legality c.in-Some.is) (omega arith)
 
 pub bounds-unwritten-place : goal.bounds-unwritten-place
 bounds-unwritten-place c = let start = c in omega (arith, few_cells _ start.requires.0.checked.sized)
 
 pub read-requires-2 : goal.read-requires-2
 read-requires-2 c =
-    let told = c.legal-found.ensures in
-    numbered _ _ 1 (sym told ∙ ap says_legality c.in-Legal.is) (omega arith)
+    let told = c.legal.ensures in
+    numbered _ _ 1 (sym told ∙ ap says_legality c.in-Some.is) (omega arith)
 
 pub bounds-unwritten-place-2 : goal.bounds-unwritten-place-2
 bounds-unwritten-place-2 c =
@@ -40,9 +40,9 @@ pub returns : goal.returns
 returns c =
     let first = c in
     let read = first.order_at-o.ensures in
-    let told = first.legal-found.ensures in
+    let told = first.legal.ensures in
     record {
-      operation = first.in-Legal.op;
-      legal = ap legal_of (sym read) ∙ sym told ∙ ap says_legality first.in-Legal.is;
+      operation = first.in-Some.op;
+      legal = ap legal_of (sym read) ∙ sym told ∙ ap says_legality first.in-Some.is;
       bits = rw (c.read.ensures, c.read-2.ensures, read);
     }

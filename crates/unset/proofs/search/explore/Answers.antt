@@ -1,50 +1,41 @@
 -- `unset::search::explore` meets its contract. The invariant is that of the search; the measure is what is left to do, by the bits still to gain.
 -- Assumes nothing.
 use mathlib.Core.Path.{refl, sym, subst}
-use Prim.Native.Nat.{◌-◌}
 use native.Mathlib.Omega.{arith}
 use Rattle.unset.proofs.Sized.{few_cells, few_orders}
-use Rattle.unset.proofs.Exploring.{Searching, blank, blank-stacked, searching_starts, searching_on, searching_ends}
-use Rattle.unset.proofs.Stack.{top_at_most, stacked-popped}
+use Rattle.unset.proofs.Exploring.{Searching, Onward, blank, blank-stacked, searching_starts, searching_popped, searching_ends}
+use Rattle.unset.proofs.Stack.{Popped, calmed, popped_last, popped_none, stacked-popped}
 use Rattle.unset.proofs.search.explore.Goals as goal
+use Rattle.unset.proofs.search.explore.Goals.{In-Some, After-take_up}
 
 pub overflow_cast-orders : goal.overflow_cast-orders
-overflow_cast-orders c = record { fits = omega (arith, few_cells _ c.requires.0.sized) }
+overflow_cast-orders c = record { fits = omega (arith, few_cells _ c.requires.sized) }
 
-pub reach-top-requires : goal.reach-top-requires
-reach-top-requires c =
-    let pre = c.requires in
-    (blank-stacked _ _ (blank _ 8192 pre.1 refl), few_orders _ pre.0, omega arith)
+pub reach-requires : goal.reach-requires
+reach-requires c =
+    (rw c.new.ensures (blank-stacked _ _ (blank 8192 refl)), few_orders _ c.requires, omega arith)
 
-pub loop-top-init : goal.loop-top-init
-loop-top-init c =
-    let pre = c.requires in
-    subst (Searching _) (sym c.reach-top.ensures) (searching_starts _ _ (few_orders _ pre.0) (blank _ 8192 pre.1 refl))
+pub loop-place-init : goal.loop-place-init
+loop-place-init c =
+    subst (Searching _) (sym c.reach.ensures) (rw c.new.ensures (searching_starts _ _ (few_orders _ c.requires) (blank 8192 refl)))
 
-pub overflow_sub-top : goal.overflow_sub-top
-overflow_sub-top c = omega arith
+taken : (c : In-Some) → Popped c.loop-place.search (calmed c.loop-place.search c.pop.new.self c.in-Some.place) c.in-Some.place
+taken c = popped_last c.loop-place.search c.pop.new.self c.pop.result c.in-Some.place c.pop.ensures.rest c.pop.ensures.value c.in-Some.is
 
-pub offset_bounds-stack-top : goal.offset_bounds-stack-top
-offset_bounds-stack-top c = omega (arith, top_at_most _ _ c.loop-top.invariant.stack, c.loop-top-test.true)
+pub take_up-requires : goal.take_up-requires
+take_up-requires c =
+    let p = taken (goal.at.take_up-requires c).In-Some in
+    let s = c.loop-place.invariant in
+    rw p.left record { checked = c.requires; stack = stacked-popped _ _ s.stack p.some; inside = rw (← p.last) (s.stack.inside _ (omega (arith, p.some))) }
 
-pub bounds-stack-top : goal.bounds-stack-top
-bounds-stack-top c = omega (arith, top_at_most _ _ c.loop-top.invariant.stack, c.loop-top-test.true)
+onward : (c : After-take_up) → Popped c.loop-place.search (calmed c.loop-place.search c.pop.new.self c.in-Some.place) c.in-Some.place → Onward c.args.deck.now c.loop-place.search c.take_up.new.search
+onward c p = searching_popped _ _ _ _ _ c.loop-place.invariant p c.take_up.ensures
 
-pub overflow_cast-place : goal.overflow_cast-place
-overflow_cast-place c = record { fits = omega (arith, c.loop-top.invariant.stack.inside (c.loop-top.top - 1) (omega (arith, c.loop-top-test.true)), c.loop-top.invariant.few) }
+pub loop-place-smaller : goal.loop-place-smaller
+loop-place-smaller c = (onward (goal.at.loop-place-smaller c).After-take_up (taken (goal.at.loop-place-smaller c).In-Some)).less
 
-pub bounds-waiting-place : goal.bounds-waiting-place
-bounds-waiting-place c = omega (arith, c.loop-top.invariant.stack.inside (c.loop-top.top - 1) (omega (arith, c.loop-top-test.true)), c.loop-top.invariant.few)
-
-pub take_up-top-requires : goal.take_up-top-requires
-take_up-top-requires c =
-    record { checked = c.requires.0; stack = stacked-popped _ _ c.loop-top.invariant.stack c.loop-top-test.true; inside = c.loop-top.invariant.stack.inside (c.loop-top.top - 1) (omega (arith, c.loop-top-test.true)) }
-
-pub loop-top-smaller : goal.loop-top-smaller
-loop-top-smaller c = (searching_on _ _ _ c.loop-top.invariant c.loop-top-test.true c.take_up-top.ensures).less
-
-pub loop-top-preserved : goal.loop-top-preserved
-loop-top-preserved c = (searching_on _ _ _ c.loop-top.invariant c.loop-top-test.true c.take_up-top.ensures).inv
+pub loop-place-preserved : goal.loop-place-preserved
+loop-place-preserved c = (onward (goal.at.loop-place-preserved c).After-take_up (taken (goal.at.loop-place-preserved c).In-Some)).inv
 
 pub returns : goal.returns
-returns c = searching_ends _ _ c.loop-top.invariant (omega (arith, c.loop-top-test.false))
+returns c = searching_ends _ _ c.loop-place.invariant (popped_none c.loop-place.search c.pop.result c.pop.ensures.value c.in_default.is)

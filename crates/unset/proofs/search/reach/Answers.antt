@@ -7,16 +7,16 @@ use borrow.Author.Tests.{lt-ltb, le-ltb}
 use Rattle.unset.specs.Search.{reached, places}
 use Rattle.unset.proofs.Stack.{room}
 
-pub returns-then-orders-x : goal.returns-then-orders-x
+pub returns-else-x-orders : goal.returns-else-x-orders
 unfolding reached
-returns-then-orders-x c = rw (le-ltb _ _ c.if-orders-x.true)
+returns-else-x-orders c = rw (le-ltb _ _ c.if-x-orders.false)
 
 pub arrive-requires : goal.arrive-requires
 arrive-requires c =
     let p = c.requires in
-    let inside : c.index.result < places = omega (arith, c.index.ensures, p.1, p.2, c.if-orders-x.false) in
+    let inside : c.index.result < places = omega (arith, c.index.ensures, p.1, p.2, c.if-x-orders.true) in
     record { inside = inside; room = room _ _ _ p.0 inside }
 
-pub returns : goal.returns
+pub returns-then-x-orders : goal.returns-then-x-orders
 unfolding reached
-returns c = rw (lt-ltb _ _ c.if-orders-x.false, ← c.index.ensures) c.arrive.ensures
+returns-then-x-orders c = rw (lt-ltb _ _ c.if-x-orders.true, ← c.index.ensures) c.arrive.ensures
