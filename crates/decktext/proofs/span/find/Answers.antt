@@ -2,6 +2,7 @@ use native.Mathlib.Nat.{add_assoc}
 use native.Mathlib.Omega.{arith}
 use Rattle.decktext.proofs.Lines.{start, on, found, none}
 use Rattle.decktext.proofs.span.find.Goals as goal
+use Rattle.decktext.proofs.span.find.Goals.{else-i-end-via-then-i-end+else-text-i-3, else-i-end-via-else-i-end}
 
 pub loop-i-init : goal.loop-i-init
 loop-i-init c = (start c.args.text.now _ _, c.requires.0)
@@ -42,8 +43,9 @@ bounds-text-i-then-i-end c = omega arith
 pub returns-then-text-i-3 : goal.returns-then-text-i-3
 returns-then-text-i-3 c = found c.loop-i.invariant.0 _ c.loop-i.invariant.1 c.if-text-i-3.true
 
-pub returns-else-text-i-3 : goal.returns-else-text-i-3
-returns-else-text-i-3 c = none (on c.loop-i.invariant.0 c.if-text-i-3.false) _ (omega arith) (omega arith)
-
 pub returns-else-i-end : goal.returns-else-i-end
-returns-else-i-end c = none c.loop-i.invariant.0 _ (omega arith) c.if-i-end.false
+returns-else-i-end c =
+    elim c.else-i-end.branch [
+      | else-i-end-via-then-i-end+else-text-i-3 w ↦ none (on c.loop-i.invariant.0 w.if-text-i-3.false) _ (omega arith) (omega arith)
+      | else-i-end-via-else-i-end w ↦ none c.loop-i.invariant.0 _ (omega arith) w.if-i-end.false
+    ]
