@@ -5,7 +5,6 @@
 
 ghost use Rattle.std.specs.Prelude.{◌≤◌, length};
 
-use listing::Listing;
 use std::io::Print;
 use stream::read_all;
 
@@ -37,15 +36,8 @@ fn one_text(rt: HostRuntime, n: usize, space: &mut [u8]) -> bool
         let _ = rt.stderr().write_all(b"decks: a text is too short\n");
         return false;
     }
-    write(rt, listing::answer(text))
-}
-
-fn write(rt: HostRuntime, out: Listing) -> bool
-    requires { out.length ≤ 320 }
-{
-    let n = out.length;
-    let bytes = out.bytes;
-    rt.stdout().write_all(&bytes[..n]).is_ok()
+    let out = listing::answer(text);
+    rt.stdout().write_all(out.as_bytes()).is_ok()
 }
 
 // One case, and whether to go on. A read that fails is the input's end.

@@ -6,9 +6,8 @@ use mathlib.Core.List.{List, [], ◌∷◌}
 use native.Mathlib.Omega.{arith}
 use lib.ListN.{length}
 use lib.Dec.{ltb}
-use Rattle.decktext.specs.declared.refusal.Refusal.{Refusal}
 use Rattle.decktext.specs.Text.{lines_of}
-use Rattle.decktext.specs.Read.{Buffers, taken, refused, says_refusal, number_said, line_said, outcome, Progress, start, Read, whole, faulty, concluded_with, read_text}
+use Rattle.decktext.specs.Read.{Buffers, taken, refused, outcome, Progress, start, Read, whole, faulty, concluded_with, read_text}
 use Rattle.decktext.proofs.Passing.{through, all_kept}
 use Rattle.decktext.proofs.Readings.{apart}
 use Rattle.decktext.proofs.Walking.{text_read}
@@ -32,11 +31,6 @@ accepted_by t b n false (faulty m k) r e h = apart (sym h)
 pub accepted : (t : List ℕ) (b : Buffers) (n : ℕ) → (read_text t b).said ≡ taken n → Taken t b n
 unfolding read_text
 accepted t b n h = accepted_by t b n (ltb 32768 (length t)) (text_read t b) refl refl h
-
--- a refusal has a number and a line
-pub refused_said : (r : Refusal) → says_refusal r ≡ refused (number_said (says_refusal r)) (line_said (says_refusal r))
-refused_said (Refusal.Malformed l) = refl
-refused_said (Refusal.NoRoom l) = refl
 
 -- the cells hold the orders that are counted
 pub taken_fits : (t : List ℕ) (b : Buffers) (n : ℕ) → (read_text t b).said ≡ taken n → n * 4 ≤ length b.cells
