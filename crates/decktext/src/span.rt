@@ -8,15 +8,8 @@ pub fn find(text: &[u8], from: usize, end: usize, b: u8) -> usize
     requires { (from ≤ end) × (end ≤ length text.now) }
     ensures { Stretch text.now from end b result }
 {
-    let mut i = from;
-    while i + 1 < end {
-        if text[i] == b {
-            return i;
-        }
-        if text[i + 1] == b {
-            return i + 1;
-        }
-        i += 2;
+    match text[from..end].iter().position(|x| *x == b) {
+        Some(k) => from + k,
+        None => end,
     }
-    if i < end && text[i] == b { i } else { end }
 }

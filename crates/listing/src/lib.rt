@@ -6,4 +6,3 @@ mod listing;
 mod text;
 
 pub use listing::{Listing, answer, reading};
-pub use text::Text;

@@ -17,7 +17,7 @@ impl<const N: usize> Text<N> {
     ghost use Rattle.listing.specs.Digits.{decimal, hexadecimal};
     ghost use Rattle.listing.specs.Text.{text_of, Appended};
 
-    pub fn new() -> Self
+    pub(crate) fn new() -> Self
         ensures { (text_of result ≡ []) × (result.length ≡ 0) }
     {
         Text {
@@ -32,7 +32,7 @@ impl<const N: usize> Text<N> {
         &self.bytes[..self.length]
     }
 
-    pub fn push(&mut self, b: u8)
+    pub(crate) fn push(&mut self, b: u8)
         requires { self.old.length < N }
         ensures { Appended self.old self.new (b ∷ []) }
     {
@@ -40,7 +40,7 @@ impl<const N: usize> Text<N> {
         self.length += 1;
     }
 
-    pub fn push_bytes(&mut self, s: &[u8])
+    pub(crate) fn push_bytes(&mut self, s: &[u8])
         requires { self.old.length + length s.now ≤ N }
         ensures { Appended self.old self.new s.now }
     {
@@ -50,7 +50,7 @@ impl<const N: usize> Text<N> {
     }
 
     // A decimal has at most 20 digits.
-    pub fn push_decimal(&mut self, n: u64)
+    pub(crate) fn push_decimal(&mut self, n: u64)
         requires { self.old.length + 20 ≤ N }
         ensures appended { Appended self.old self.new (decimal n) }
         ensures length_bound { self.new.length ≤ self.old.length + 20 }
@@ -60,7 +60,7 @@ impl<const N: usize> Text<N> {
         self.push_bytes(&digits[..k]);
     }
 
-    pub fn push_word(&mut self, w: u32)
+    pub(crate) fn push_word(&mut self, w: u32)
         requires { self.old.length + 8 ≤ N }
         ensures { Appended self.old self.new (hexadecimal 8 w) }
     {

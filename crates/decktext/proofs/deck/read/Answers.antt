@@ -1,8 +1,7 @@
-use mathlib.Core.Path.{sym, ap, ◌∙◌}
 use borrow.Author.Tests.{lt-ltb}
 use Rattle.std.proofs.lemmas.Result.{err_from_is_err_and}
 use Rattle.protection.specs.Bits.{bitwise}
-use Rattle.decktext.specs.Read.{Buffers, buffers, read_text}
+use Rattle.decktext.specs.Read.{buffers, read_text}
 use Rattle.decktext.proofs.Laws.{taken_fits}
 use Rattle.decktext.proofs.Readings.{refusal, orders, landing, said_taken, taking}
 use Rattle.decktext.proofs.deck.read.Goals as goal

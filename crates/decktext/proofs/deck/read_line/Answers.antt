@@ -1,4 +1,4 @@
-use mathlib.Core.Path.{sym, ap, ◌∙◌}
+use mathlib.Core.Path.{sym, ◌∙◌}
 use Rattle.decktext.specs.Read.{line_read}
 use Rattle.decktext.specs.Walk.{progress_of}
 use Rattle.decktext.proofs.deck.read_line.Goals as goal

@@ -1,16 +1,13 @@
-use Prim.Native.Nat.{ℕ, ◌<◌, zero-le}
-use mathlib.Core.Path.{◌≡◌, refl, sym, ap, ◌∙◌}
+use Prim.Native.Nat.{ℕ, zero-le}
+use mathlib.Core.Path.{◌≡◌, refl, sym}
 use mathlib.Core.List.{List}
 use native.Mathlib.Nat.{le_refl, sub-zero}
 use native.Mathlib.Omega.{arith}
 use lib.ListN.{length}
 use lib.Seq.{take_all}
-use Rattle.hexfloat.specs.Answer.{Answer}
-use Rattle.decktext.specs.Text.{values_of}
-use Rattle.decktext.specs.Value.{says_value}
-use Rattle.decktext.specs.Walk.{wanted_of, value_as}
+use Rattle.decktext.specs.Walk.{wanted_of}
 use Rattle.decktext.proofs.Lines.{part}
-use Rattle.decktext.proofs.Parsed.{parsed, start, on, bad}
+use Rattle.decktext.proofs.Parsed.{start, on, bad}
 use Rattle.decktext.proofs.Forms.{placed_at, values_at, few, judged, faulty_line}
 use Rattle.decktext.proofs.deck.values_of.Goals as goal
 
