@@ -1,7 +1,7 @@
 // What `desk` writes: a refused text's number and line, or what stands after the run.
 ghost use Rattle.std.specs.Prelude.{◌≡◌, ◌+◌, ◌<◌, ◌≤◌};
 ghost use Rattle.machine.specs.Stops.{number_of};
-ghost use Rattle.decktext.specs.Read.{says_reading, read_text, number_said, line_said, says_refusal};
+ghost use Rattle.decktext.specs.Read.{says_reading, read_text};
 ghost use Rattle.listing.specs.Listing.{blank, field, refusal, register_line, register_lines, listed, listing_of};
 ghost use Rattle.listing.specs.Text.{Holds, Appended};
 
@@ -36,7 +36,7 @@ pub fn answer(text: &[u8]) -> Listing
                 limit,
             ))
         }
-        Err(refusal) => list_refusal(refusal),
+        Err(refusal) => list_refusal(u8::from(refusal), refusal.line()),
     }
 }
 
@@ -61,13 +61,13 @@ fn push_field(out: &mut Listing, n: u64, after: u8)
     out.push(after);
 }
 
-fn list_refusal(r: Refusal) -> Listing
-    ensures { Holds result (refusal (number_said (says_refusal r)) (line_said (says_refusal r))) }
+fn list_refusal(number: u8, line: u32) -> Listing
+    ensures { Holds result (refusal number line) }
 {
     let mut out = Listing::new();
     out.push_bytes(b"stop line\n");
-    push_field(&mut out, u8::from(r) as u64, b' ');
-    push_field(&mut out, r.line() as u64, b'\n');
+    push_field(&mut out, number as u64, b' ');
+    push_field(&mut out, line as u64, b'\n');
     out
 }
 

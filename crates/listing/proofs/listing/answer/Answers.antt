@@ -24,4 +24,4 @@ pub returns-in-Ok : goal.returns-in-Ok
 returns-in-Ok c = rw (ap listed_run (rw c.fresh-fresh.ensures at c.run.ensures) ∙ of_taken _ _ _ c.in-Ok.ensures) at c.list_run.ensures
 
 pub returns-in-Err : goal.returns-in-Err
-returns-in-Err c = rw (of_refused _ _ c.in-Err.refusal c.in-Err.ensures) at c.list_refusal.ensures
+returns-in-Err c = rw (c.from.ensures, c.line.ensures, of_refused _ _ c.in-Err.refusal c.in-Err.ensures) at c.list_refusal.ensures

@@ -4,4 +4,4 @@ use Rattle.listing.proofs.listing.list_refusal.Goals as goal
 
 pub returns : goal.returns
 unfolding refusal
-returns c = whole c.new-out.ensures.0 (rw (c.from.ensures, c.line.ensures) at (then c.push_bytes.ensures (then c.push_field.ensures.appended c.push_field-2.ensures.appended)))
+returns c = whole c.new-out.ensures.0 (then c.push_bytes.ensures (then c.push_field.ensures.appended c.push_field-2.ensures.appended))
