@@ -3,28 +3,26 @@
 // A case is a line of five digits, the text's length in bytes, and the text.
 #![tactic(auto)]
 
-ghost use Rattle.std.specs.Prelude.{◌≤◌, length};
+ghost use Rattle.std.specs.Prelude.{◌≤◌, ◌<◌, length, IfSome};
 
-use listing::Listing;
 use std::io::Print;
 use stream::read_all;
 
-// The number of five digits and a line feed, or 100,000 for any other line.
-fn length_of(line: &[u8; 6]) -> usize
-    ensures { result ≤ 100000 }
+// The number of five digits and a line feed, or none for any other line.
+fn length_of(line: &[u8; 6]) -> Option<usize>
+    ensures { IfSome result (λ n. n < 100000) }
 {
-    let mut n: usize = 0;
-    for i in 0..5 {
-        let b = line[i];
-        if b < b'0' {
-            return 100000;
-        }
-        if b'9' < b {
-            return 100000;
-        }
-        n = (n * 10 + (b - b'0') as usize) % 100000;
+    if line[5] != b'\n' {
+        return None;
     }
-    if line[5] == b'\n' { n } else { 100000 }
+    let mut n: usize = 0;
+    for b in &line[..5] {
+        if !b.is_ascii_digit() {
+            return None;
+        }
+        n = (n * 10 + (*b - b'0') as usize) % 100000;
+    }
+    Some(n)
 }
 
 // Runs the text of n bytes that follows, and says whether to go on.
@@ -37,15 +35,8 @@ fn one_text(rt: HostRuntime, n: usize, space: &mut [u8]) -> bool
         let _ = rt.stderr().write_all(b"decks: a text is too short\n");
         return false;
     }
-    write(rt, listing::answer(text))
-}
-
-fn write(rt: HostRuntime, out: Listing) -> bool
-    requires { out.length ≤ 320 }
-{
-    let n = out.length;
-    let bytes = out.bytes;
-    rt.stdout().write_all(&bytes[..n]).is_ok()
+    let out = listing::answer(text);
+    rt.stdout().write_all(out.as_bytes()).is_ok()
 }
 
 // One case, and whether to go on. A read that fails is the input's end.
@@ -55,13 +46,12 @@ fn one_case(rt: HostRuntime) -> bool {
     if got == 0 {
         return false;
     }
-    let n = length_of(&line);
-    if n == 100000 {
+    let Some(n) = length_of(&line) else {
         let _ = rt
             .stderr()
             .write_all(b"decks: a length is not of the form\n");
         return false;
-    }
+    };
     let mut space = [0u8; 100000];
     one_text(rt, n, &mut space)
 }

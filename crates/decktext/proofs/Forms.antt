@@ -13,15 +13,11 @@ use Rattle.orders.specs.declared.order.Order.{Order}
 use Rattle.orders.specs.Order.{legal_of}
 use Rattle.protection.specs.Form.{ProtectList, holds}
 use Rattle.hexfloat.proofs.Answers.{gives_inj, never, provided_gives, cond_by, provided_by, then_by, then_gives}
-use Rattle.decktext.specs.declared.fault.Fault.{Fault}
-use Rattle.decktext.specs.declared.given.Given.{Given as GivenLine}
-use Rattle.decktext.specs.declared.line.Judged.{Judged}
-use Rattle.decktext.specs.Fault.{fault_number}
 use Rattle.decktext.specs.Text.{same, values_of}
 use Rattle.decktext.specs.Value.{mnemonic_code, decimal_of, protect_of, word_of}
 use Rattle.decktext.specs.Format.{deck_heading, storage_heading, passes, legal, order_from, order_of, Halfword, halfword_from, halfword_of}
 use Rattle.decktext.specs.Read.{Wanted, heading, order, storage, halfword, Progress, Given, headed, ordered, parted, stored, order_fits, halfword_fits, line_as}
-use Rattle.decktext.specs.Walk.{Storable, value_count, in_place, value_as, order_from_values, halfword_from_values, judged_line, fault_of, says_judged}
+use Rattle.decktext.specs.Walk.{Storable, value_count, in_place, value_as, order_from_values, halfword_from_values, judged_line}
 use Rattle.decktext.proofs.Same.{same_none, same_length}
 use Rattle.decktext.proofs.Answers.{Is16, Only16, only_code, only_decimal, only_protect, only_word, protect_small}
 use Rattle.decktext.proofs.Parsed.{Kind, parsed, Placed, parsed_only, wrong_count}
@@ -260,16 +256,3 @@ placed_at w bytes n e h = rw e (placed w bytes (rw e at h))
 
 pub values_at : (w : Wanted) (line : List ℕ) (n : ℕ) (v : List ℕ) → n ≡ value_count w (length line) → (0 < n → parsed (value_as w) 0 (values_of line) ≡ gives (take n v)) → Values w line v
 values_at w line n v e h = subst (λ (m : ℕ). 0 < m → parsed (value_as w) 0 (values_of line) ≡ gives (take m v)) e h
-
--- ---- a judged line
-
--- the fault of a line that gives nothing has its number
-pub by_fault : (j : Judged) → ((g : GivenLine) → j ≡ Judged.Gives g → ⊥) → says_judged j ≡ stops (fault_number (fault_of j))
-by_fault (Judged.Gives g) h = absurd (h g refl)
-by_fault Judged.Malformed h = refl
-by_fault Judged.NoRoom h = refl
-
-pub some_fault : (j : Judged) → ((g : GivenLine) → j ≡ Judged.Gives g → ⊥) → fault_of j ≡ Fault.Nothing → ⊥
-some_fault (Judged.Gives g) h e = h g refl
-some_fault Judged.Malformed h e = let z : ◌≡◌ {A = ℕ} 0 1 = cc in omega arith
-some_fault Judged.NoRoom h e = let z : ◌≡◌ {A = ℕ} 0 1 = cc in omega arith

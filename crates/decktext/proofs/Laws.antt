@@ -2,20 +2,15 @@
 use Prim.Native.Nat.{ℕ, ◌*◌, ◌≤◌}
 use mathlib.Core.Path.{◌≡◌, refl, sym, ap, ◌∙◌}
 use mathlib.Core.Bool.{Bool, true, false, cond}
-use mathlib.Core.List.{List, [], ◌∷◌}
-use types.Run.{OneOf}
-use denote.Enum.Declared.{tag_of}
+use mathlib.Core.List.{List}
 use native.Mathlib.Omega.{arith}
 use lib.ListN.{length}
 use lib.Dec.{ltb}
-use Rattle.decktext.specs.declared.deck.Reading.{Reading}
 use Rattle.decktext.specs.Text.{lines_of}
-use Rattle.decktext.specs.Read.{Buffers, taken, refused, says_reading, number_said, line_said, outcome, Progress, start, Read, whole, faulty, concluded_with, read_text}
+use Rattle.decktext.specs.Read.{Buffers, taken, refused, outcome, Progress, start, Read, whole, faulty, concluded_with, read_text}
 use Rattle.decktext.proofs.Passing.{through, all_kept}
 use Rattle.decktext.proofs.Readings.{apart}
 use Rattle.decktext.proofs.Walking.{text_read}
-use Rattle.decktext.proofs.Tags.{not_first}
-use Rattle.decktext.specs.contracts.deck.Reading as reading-type
 
 -- a text that is taken, with what its lines gave
 pub record Taken (t : List ℕ) (b : Buffers) (n : ℕ) : Type 0 where
@@ -36,12 +31,6 @@ accepted_by t b n false (faulty m k) r e h = apart (sym h)
 pub accepted : (t : List ℕ) (b : Buffers) (n : ℕ) → (read_text t b).said ≡ taken n → Taken t b n
 unfolding read_text
 accepted t b n h = accepted_by t b n (ltb 32768 (length t)) (text_read t b) refl refl h
-
--- a reading that is not the first of its variants is a refusal
-pub refused_said : (r : Reading) → OneOf (1 ∷ 2 ∷ []) (tag_of reading-type.the_type r) → says_reading r ≡ refused (number_said (says_reading r)) (line_said (says_reading r))
-refused_said (Reading.Taken n) h = absurd (not_first h refl)
-refused_said (Reading.Malformed l) h = refl
-refused_said (Reading.NoRoom l) h = refl
 
 -- the cells hold the orders that are counted
 pub taken_fits : (t : List ℕ) (b : Buffers) (n : ℕ) → (read_text t b).said ≡ taken n → n * 4 ≤ length b.cells

@@ -1,6 +1,5 @@
 -- The laws of the reader.
 mod Same
-mod Tags
 mod Tested
 mod Digits
 mod DigitTable

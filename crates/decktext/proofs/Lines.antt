@@ -2,13 +2,13 @@
 use mathlib.Core.Path.{◌≡◌, refl, sym, ap, ◌∙◌}
 use mathlib.Core.Bool.{Bool, true, false, cond}
 use mathlib.Core.List.{List, [], ◌∷◌}
-use Prim.Native.Nat.{ℕ, zero, suc, ◌+◌, ◌-◌, ◌≤◌, ◌<◌, suc-le-suc}
+use Prim.Native.Nat.{ℕ, zero, suc, ◌+◌, ◌-◌, ◌≤◌, ◌<◌, suc-le-suc, zero-le}
 use native.Mathlib.Nat.{zero-lt-suc, zero-add, suc-add, le_of_suc-le-suc, le_refl}
 use native.Mathlib.Omega.{arith}
 use lib.ListN.{length, get_or, take, drop, drop_of_length-le}
 use lib.Dec.{eqb}
 use lib.Seq.{take-nil, drop-nil, take-take, take_all, drop-drop, get_or-take, get_or-drop, slice, length-slice}
-use borrow.Author.Count.{below_more}
+use Rattle.std.specs.List.{AllWithin, HoldsAt}
 use borrow.Author.Tests.{eq-eqb, ne_eqb}
 use Rattle.decktext.specs.Text.{ended, unended, lines_of, prefixed, values_of}
 use Rattle.decktext.specs.Walk.{Stretch}
@@ -125,22 +125,19 @@ some_value (x ∷ s) = by (eqb x 32) (some_value s)
     by true q = ([], values_of s, refl)
     by false q = (x ∷ q.0, q.1, rw q.2)
 
--- ---- a search, place by place: what holds of the places passed, and its laws (start, on, found, none)
+-- ---- a search through a part of the text: what it says where it finds b, and where it does not
 
--- no place from `from` on, and before i, holds b
-pub record Passed (t : List ℕ) (from b i : ℕ) : Type 0 where
-  pub low : from ≤ i
-  pub before : (k : ℕ) → k < i → from ≤ k → get_or t k 0 ≡ b → ⊥
+module _ (t : List ℕ) (from end b : ℕ) (low : from ≤ end) where
+  in_part : (k : ℕ) → k < end - from → get_or (part from end t) k 0 ≡ get_or t (from + k) 0
+  in_part k h = get_or-take (end - from) (drop from t) k 0 h ∙ get_or-drop from t k 0
 
-pub start : (t : List ℕ) (from b : ℕ) → Passed t from b from
-start t from b = record { low = le_refl from; before = λ k h l e. omega arith }
+  not_before : (m : ℕ) → m ≤ end - from → AllWithin (λ x. x ≡ b → ⊥) (part from end t) 0 m → (j : ℕ) → j < from + m → from ≤ j → get_or t j 0 ≡ b → ⊥
+  not_before m l a j h k e =
+      let there : from + (j - from) ≡ j = omega arith in
+      a (j - from) 0 zero-le (omega arith) (in_part (j - from) (omega arith) ∙ ap (λ (i : ℕ). get_or t i 0) there ∙ e)
 
-module _ {t : List ℕ} {from b i : ℕ} (p : Passed t from b i) where
-  pub on : (get_or t i 0 ≡ b → ⊥) → Passed t from b (i + 1)
-  on h = record { low = omega (arith, p.low); before = below_more _ i p.before (λ l. h) }
+  pub found : (k : ℕ) → k < end - from → HoldsAt (λ x. x ≡ b) (part from end t) k → AllWithin (λ x. x ≡ b → ⊥) (part from end t) 0 k → Stretch t from end b (from + k)
+  found k h e a = record { low = omega arith; high = omega arith; before = not_before k (omega arith) a; found = λ l. sym (in_part k h) ∙ e 0 }
 
-  pub found : (end : ℕ) → i ≤ end → get_or t i 0 ≡ b → Stretch t from end b i
-  found end h e = record { low = p.low; high = h; before = p.before; found = λ l. e }
-
-  pub none : (end : ℕ) → from ≤ end → end ≤ i → Stretch t from end b end
-  none end l h = record { low = l; high = le_refl end; before = λ k g. p.before k (omega arith); found = λ l. absurd (omega arith) }
+  pub none : AllWithin (λ x. x ≡ b → ⊥) (part from end t) 0 (end - from) → Stretch t from end b end
+  none a = record { low = low; high = le_refl end; before = λ j h. not_before (end - from) (le_refl _) a j (omega arith); found = λ l. absurd (omega arith) }

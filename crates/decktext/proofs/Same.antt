@@ -1,12 +1,13 @@
 -- The same bytes: laws of the test.
 use mathlib.Core.Path.{◌≡◌, refl, ap}
-use mathlib.Core.Bool.{Bool, true, false, ◌&&◌}
+use mathlib.Core.Bool.{Bool, true, false}
+use lib.Pointwise.{pointwise}
 use mathlib.Core.List.{List, [], ◌∷◌}
-use Prim.Native.Nat.{ℕ, ◌+◌, ◌≤◌, ◌<◌}
+use Prim.Native.Nat.{ℕ, ◌+◌, ◌<◌}
 use native.Mathlib.Numerals.{add-one}
 use native.Mathlib.Omega.{arith}
 use lib.Seq.{drop-cons}
-use lib.ListN.{length, get_or, drop, drop_of_length-le}
+use lib.ListN.{length, get_or, drop}
 use lib.Dec.{eqb}
 use borrow.Author.Tests.{eqb-true, eq-eqb}
 use Rattle.hexfloat.proofs.Answers.{both}
@@ -42,13 +43,13 @@ same_length v w h = same_false v w (λ e. h (ap length e))
 pub next : (v : List ℕ) (i : ℕ) → i < length v → drop i v ≡ get_or v i 0 ∷ drop (i + 1) v
 next v i h = rw (add-one, drop-cons v i 0)
 
-pub same_next : (v w : List ℕ) (i : ℕ) → i < length v → i < length w → same (drop i v) (drop i w) ≡ (eqb (get_or v i 0) (get_or w i 0) && same (drop (i + 1) v) (drop (i + 1) w))
+-- what `==` of two lists answers
+pub same_pointwise : (v w : List ℕ) → pointwise eqb v w ≡ same v w
 unfolding same
-same_next v w i h k = rw (next v i h, next w i k)
-
-pub same_end : (v w : List ℕ) (i : ℕ) → length v ≤ i → length w ≤ i → same (drop i v) (drop i w) ≡ true
-unfolding same
-same_end v w i h k = rw (drop_of_length-le v h, drop_of_length-le w k)
+same_pointwise [] [] = refl
+same_pointwise [] (y ∷ w) = refl
+same_pointwise (x ∷ v) [] = refl
+same_pointwise (x ∷ v) (y ∷ w) = rw (same_pointwise v w)
 
 pub single : (v : List ℕ) → length v ≡ 1 → v ≡ get_or v 0 0 ∷ []
 single [] h = absurd (omega arith)

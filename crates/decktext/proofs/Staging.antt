@@ -1,12 +1,12 @@
 -- The staging array: what it stands for, before any line and with one line more.
 use Prim.Native.Nat.{ℕ, zero, suc, ◌+◌, ◌*◌, ◌≤◌, ◌<◌}
-use mathlib.Core.Path.{◌≡◌, refl, ap, ◌∙◌}
-use mathlib.Core.List.{List}
+use mathlib.Core.Path.{◌≡◌, refl, sym, ap, ◌∙◌}
+use mathlib.Core.List.{List, ◌∷◌, ◌++◌}
 use native.Mathlib.Numerals.{add-one}
 use native.Mathlib.Omega.{arith}
 use borrow.Author.Count.{below_more}
-use lib.ListN.{length, get_or, set, length-set}
-use lib.Seq.{get_or-set_same, get_or-set_other}
+use lib.ListN.{length, get_or, set, take, drop, length-set}
+use lib.Seq.{get_or-set_same, get_or-set_other, append_snoc, length-take-le, take-suc, drop-cons, set-append_seam}
 use Rattle.orders.specs.declared.order.Order.{Order}
 use Rattle.orders.specs.Order.{order_at}
 use Rattle.protection.specs.Form.{ProtectList, with_mark}
@@ -170,6 +170,15 @@ pub front_length : (s : List ℕ) (m : ℕ) (c : List ℕ) → length (with_fron
 unfolding with_front
 front_length s zero c = refl
 front_length s (suc m) c = length-set (with_front s m c) m (get_or s m 0) ∙ front_length s m c
+
+-- the front is copied as one slice
+pub front_taken : (s : List ℕ) (m : ℕ) (c : List ℕ) → m ≤ length s → m ≤ length c → take m s ++ drop m c ≡ with_front s m c
+unfolding with_front
+front_taken s zero c h k = refl
+front_taken s (suc m) c h k =
+    rw (← front_taken s m c (omega arith) (omega arith), take-suc s m 0 (omega arith), drop-cons c m 0 (omega arith), append_snoc)
+    (let e : length (take m s) ≡ m = length-take-le m s (omega arith) in
+    sym (ap (λ (i : ℕ). set (take m s ++ get_or c m 0 ∷ drop (suc m) c) i (get_or s m 0)) (sym e) ∙ set-append_seam (take m s) (get_or c m 0) (drop (suc m) c) (get_or s m 0)))
 
 pub front_next : (s : List ℕ) (m : ℕ) (c now : List ℕ) → now ≡ with_front s m c → set now m (get_or s m 0) ≡ with_front s (m + 1) c
 unfolding with_front

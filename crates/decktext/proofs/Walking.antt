@@ -6,14 +6,14 @@ use native.Mathlib.Omega.{arith}
 use lib.ListN.{length, drop, length-set}
 use Rattle.hexfloat.specs.Answer.{gives, stops}
 use Rattle.protection.specs.Form.{with_mark}
-use Rattle.decktext.specs.declared.deck.Found.{Found}
+use Rattle.std.specs.Prelude.{Result}
 use Rattle.decktext.specs.declared.line.Progress.{Progress as Place}
 use Rattle.decktext.specs.declared.line.Sizes.{Sizes}
-use Rattle.decktext.specs.declared.fault.Fault.{Fault}
-use Rattle.decktext.specs.Fault.{fault_number}
+use Rattle.decktext.specs.declared.staged.Staged.{Staged}
+use Rattle.decktext.specs.declared.refusal.Refusal.{Refusal}
 use Rattle.decktext.specs.Text.{lines_of}
 use Rattle.decktext.specs.Read.{Buffers, refused, says_reading, Wanted, heading, order, storage, halfword, Progress, start as begun, Given, headed, ordered, parted, stored, line_read, buffered_with, progressed, Read, whole, faulty, end_read, lines_read_by, lines_read}
-use Rattle.decktext.specs.Walk.{Stretch, Storable, wanted_of, progress_of, Sized, end_said, concluded, said_of, Walked}
+use Rattle.decktext.specs.Walk.{Stretch, Storable, wanted_of, progress_of, Sized, end_said, said_of, Walked}
 use Rattle.decktext.specs.Staged.{place_after, values_in, halfwords_with, staged_with, replayed, Landing}
 use Rattle.decktext.proofs.Forms.{Sound, first, an_order, parting, second, a_halfword, sound, sound_fits}
 use Rattle.decktext.proofs.Lines.{part, length_part, line_ended, line_unended, no_line}
@@ -150,12 +150,6 @@ module _ {t : List ℕ} {b : Buffers} {s : Sizes} {p : Place} {at line k : ℕ} 
 
 -- ---- where the walk is left
 
-pub record Left (t : List ℕ) (b : Buffers) (p : Place) (fault : Fault) (line k : ℕ) (staged : List ℕ) : Type 0 where
-  pub said : concluded fault line p ≡ said_of (text_read t b)
-  pub end : (q : Progress) → text_read t b ≡ whole q → q ≡ reached p k staged b
-  pub orders : p.count * 4 ≤ 16384
-  pub landing : Landing staged p.count k (length b.memory)
-
 -- a whole text is no faulty one
 pub other : {n k : ℕ} {q : Progress} {C : Type 0} → faulty n k ≡ whole q → C
 other h = let z : ◌≡◌ {A = ℕ} 0 1 = cc in absurd (omega arith)
@@ -175,42 +169,23 @@ end_said_lem order q line = refl
 end_said_lem storage q line = refl
 end_said_lem halfword q line = refl
 
-fault_said : (fault : Fault) (line : ℕ) (p : Place) → (fault ≡ Fault.Nothing → ⊥) → concluded fault line p ≡ refused (fault_number fault) line
-fault_said Fault.Nothing line p z = absurd (z refl)
-fault_said Fault.Malformed line p z = refl
-fault_said Fault.NoRoom line p z = refl
+-- at a fault
+pub at_fault : {t : List ℕ} {b : Buffers} {n line : ℕ} {staged : Staged} {r : Result ℕ Refusal} → text_read t b ≡ faulty n line → says_reading r ≡ refused n line → Walked t b staged r
+at_fault f e = record { said = rw f e; held = λ q h. other (sym f ∙ h); orders = λ q h. other (sym f ∙ h); landing = λ q h. other (sym f ∙ h) }
 
-module _ {t : List ℕ} {b : Buffers} {s : Sizes} {p : Place} {at line k : ℕ} {staged : List ℕ} (r : Walking t b s p at line k staged) (limit : length t ≤ 32768) where
-  left : (fault : Fault) → concluded fault line p ≡ said_of (text_read t b) → ((q : Progress) → text_read t b ≡ whole q → q ≡ reached p k staged b) → Left t b p fault line k staged
-  left fault said end = record {
-    said = said;
-    end = end;
-    orders = omega (arith, r.half, r.reach);
-    landing = rw r.first.memory r.landing;
-  }
-
-  read_there : length t ≤ at → text_read t b ≡ end_read (wanted_of p.wanted) (reached p k staged b) line
+-- at the end of the text
+module _ {t : List ℕ} {b : Buffers} {s : Sizes} {p : Place} {at line : ℕ} (staged : Staged) (r : Walking t b s p at line staged.halfwords staged.values) (limit : length t ≤ 32768) (l : length t ≤ at) where
+  read_there : text_read t b ≡ end_read (wanted_of p.wanted) (reached p staged.halfwords staged.values b) line
   unfolding lines_read_by
-  read_there l = r.rest ∙ rw (no_line t at l)
+  read_there = r.rest ∙ rw (no_line t at l)
 
-  -- at the end of the text
-  pub at_end : length t ≤ at → (fault : Fault) → fault ≡ Fault.Nothing → Left t b p fault line k staged
-  at_end l fault z =
-      left fault (rw (z, read_there l) (end_said_lem (wanted_of p.wanted) (reached p k staged b) line))
-      (λ q h. sym (end_whole (wanted_of p.wanted) (reached p k staged b) q line (sym (read_there l) ∙ h)))
+  whole_there : (q : Progress) → text_read t b ≡ whole q → q ≡ reached p staged.halfwords staged.values b
+  whole_there q h = sym (end_whole (wanted_of p.wanted) (reached p staged.halfwords staged.values b) q line (sym read_there ∙ h))
 
-  -- at a fault
-  pub at_fault : (fault : Fault) → (fault ≡ Fault.Nothing → ⊥) → text_read t b ≡ faulty (fault_number fault) line → Left t b p fault line k staged
-  at_fault fault z f = left fault (fault_said fault line p z ∙ rw f) (λ q h. other (sym f ∙ h))
-
-  pub at_malformed : {fault : Fault} → fault ≡ Fault.Malformed → text_read t b ≡ faulty (fault_number Fault.Malformed) line → Left t b p fault line k staged
-  at_malformed e f = rw e (at_fault Fault.Malformed (λ z. let no : ◌≡◌ {A = ℕ} 0 1 = cc in omega arith) f)
-
-pub walked : {t : List ℕ} {b : Buffers} {p : Place} {fault : Fault} {line k : ℕ} {staged : List ℕ} (r : Found) → Left t b p fault line k staged
-    → says_reading r.reading ≡ concluded fault line p → r.halfwords ≡ k → Walked t b staged r
-walked {t} {b} {p} {k = k} {staged} r l e h = record {
-  said = e ∙ l.said;
-  held = λ q w. rw (l.end q w, h);
-  orders = λ q w. rw (l.end q w) l.orders;
-  landing = λ q w. rw (l.end q w, h) l.landing;
-}
+  pub at_end : (a : Result ℕ Refusal) → says_reading a ≡ end_said (wanted_of p.wanted) p.count line → Walked t b staged a
+  at_end a e = record {
+    said = e ∙ rw read_there (end_said_lem (wanted_of p.wanted) (reached p staged.halfwords staged.values b) line);
+    held = λ q h. rw (whole_there q h);
+    orders = λ q h. rw (whole_there q h) (omega (arith, r.half, r.reach));
+    landing = λ q h. rw (whole_there q h) (rw r.first.memory r.landing);
+  }

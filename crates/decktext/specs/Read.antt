@@ -1,10 +1,10 @@
 -- Reading a deck text (document 01, 'Deck text'): which line is wanted at each number, and the first faulty line from the top, 16 before 17.
-use Rattle.std.specs.Prelude.{ℕ, ◌+◌, ◌*◌, List, [], ◌∷◌, cond, length, set, leb, ltb}
+use Rattle.std.specs.Prelude.{Result, Ok, Err, ℕ, ◌+◌, ◌*◌, List, [], ◌∷◌, cond, length, set, leb, ltb}
 use Rattle.hexfloat.specs.Answer.{Answer, gives, stops, provided, and_then}
 use Rattle.protection.specs.Form.{ProtectList, holds, with_mark}
 use Rattle.orders.specs.declared.order.Order.{Order}
-use Rattle.decktext.specs.declared.deck.Reading.{Reading}
 use Rattle.decktext.specs.declared.fault.Fault.{Fault}
+use Rattle.decktext.specs.declared.refusal.Refusal.{Refusal}
 use Rattle.decktext.specs.Fault.{fault_number}
 use Rattle.decktext.specs.Text.{Line, ended, unended, lines_of, same}
 use Rattle.decktext.specs.Format.{deck_heading, storage_heading, order_of, Halfword, halfword_of}
@@ -23,10 +23,13 @@ pub data Said : Type 0 where
   taken : ℕ → Said
   refused : ℕ → ℕ → Said
 
-abbrev pub says_reading : Reading → Said
-says_reading (Reading.Taken n) = taken n
-says_reading (Reading.Malformed l) = refused (fault_number Fault.Malformed) l
-says_reading (Reading.NoRoom l) = refused (fault_number Fault.NoRoom) l
+abbrev pub says_refusal : Refusal → Said
+says_refusal (Refusal.Malformed l) = refused (fault_number Fault.Malformed) l
+says_refusal (Refusal.NoRoom l) = refused (fault_number Fault.NoRoom) l
+
+abbrev pub says_reading : Result ℕ Refusal → Said
+says_reading (Ok n) = taken n
+says_reading (Err r) = says_refusal r
 
 -- the number and the line of a refusal; both are 0 where the text is taken
 abbrev pub number_said : Said → ℕ

@@ -1,15 +1,14 @@
 -- Values of deck text: mnemonics, decimals, protect digits and words (document 01, 'Deck text'). What is no such value is a 16.
-use Rattle.std.specs.Prelude.{ℕ, ◌+◌, ◌-◌, ◌*◌, List, [], ◌∷◌, Bool, true, false, cond, not, ◌&&◌, ◌||◌, length, eqb, leb}
+use Rattle.std.specs.Prelude.{Option, Some, None, ℕ, ◌+◌, ◌-◌, ◌*◌, List, [], ◌∷◌, Bool, true, false, cond, not, ◌&&◌, ◌||◌, length, eqb, leb}
 use Rattle.hexfloat.specs.Answer.{Answer, gives, stops, provided}
 use Rattle.decktext.specs.declared.fault.Fault.{Fault}
-use Rattle.decktext.specs.declared.value.Value.{Value}
 use Rattle.decktext.specs.Fault.{fault_number}
 use Rattle.decktext.specs.Text.{same}
 
 -- a value of the source: a number, or a 16
-abbrev pub says_value : Value → Answer ℕ
-says_value (Value.Of v) = gives v
-says_value Value.Malformed = stops (fault_number Fault.Malformed)
+abbrev pub says_value : Option ℕ → Answer ℕ
+says_value (Some v) = gives v
+says_value None = stops (fault_number Fault.Malformed)
 
 -- every byte passes
 unfoldable pub all : (ℕ → Bool) → List ℕ → Bool

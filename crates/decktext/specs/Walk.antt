@@ -1,23 +1,22 @@
 -- What the functions of the walk say of their results, in the terms of the format.
-use Rattle.std.specs.Prelude.{ℕ, ◌+◌, ◌*◌, ◌≤◌, ◌<◌, ◌≡◌, List, [], Bool, true, false, cond, ◌&&◌, length, get_or, eqb, leb, ltb}
+use Rattle.std.specs.Prelude.{Option, Some, None, Result, Ok, Err, ℕ, ◌+◌, ◌*◌, ◌≤◌, ◌<◌, ◌≡◌, List, [], Bool, true, false, cond, ◌&&◌, length, get_or, eqb, leb, ltb}
 use Rattle.hexfloat.specs.Answer.{Answer, gives, stops, provided, and_then}
 use Rattle.orders.specs.declared.order.Order.{Order}
 use Rattle.protection.specs.Bits.{bit_form}
-use Rattle.decktext.specs.declared.deck.Found.{Found}
 use Rattle.decktext.specs.declared.fault.Fault.{Fault}
 use Rattle.decktext.specs.declared.given.Given.{Given as GivenLine}
 use Rattle.decktext.specs.declared.given.Halfword.{Halfword as GivenHalfword}
+use Rattle.decktext.specs.declared.staged.Staged.{Staged}
 use Rattle.decktext.specs.declared.line.Wanted.{Wanted as WantedLine}
 use Rattle.decktext.specs.declared.line.Progress.{Progress as Place}
 use Rattle.decktext.specs.declared.line.Sizes.{Sizes}
-use Rattle.decktext.specs.declared.line.Judged.{Judged}
 use Rattle.decktext.specs.declared.reader.LineSpan.{LineSpan}
-use Rattle.decktext.specs.declared.reader.LineReader.{LineReader}
+use Rattle.decktext.specs.declared.refusal.Refusal.{Refusal}
 use Rattle.decktext.specs.Fault.{fault_number}
 use Rattle.decktext.specs.Text.{same, lines_of}
 use Rattle.decktext.specs.Value.{all, marked_digit, number_from, mnemonic_code, decimal_of, protect_of, word_of}
 use Rattle.decktext.specs.Format.{deck_heading, storage_heading, legal, Halfword}
-use Rattle.decktext.specs.Read.{Buffers, Said, taken, refused, says_reading, Wanted, heading, order, storage, halfword, Progress, start, Given, headed, ordered, parted, stored, order_fits, halfword_fits, Read, whole, faulty, lines_read}
+use Rattle.decktext.specs.Read.{Buffers, Said, taken, refused, says_reading, Wanted, heading, order, storage, halfword, Progress, start, Given, headed, ordered, parted, stored, order_fits, halfword_fits, line_as, Read, whole, faulty, lines_read}
 use Rattle.decktext.specs.Staged.{replayed, Landing}
 
 -- r is the first place from `from` on, and before `end`, that holds the byte b, or `end`
@@ -33,10 +32,6 @@ pub record LineFrom (t : List ℕ) (at : ℕ) (l : LineSpan) : Type 0 where
   pub past : length t < at → l.end ≡ length t
   pub after : l.end < length t → l.next ≡ l.end + 1
   pub last : length t ≤ l.end → l.next ≡ l.end
-
--- the line that a reader has read
-abbrev pub line_of : LineReader → LineSpan
-line_of r = record { end = r.end; next = r.at }
 
 -- the number of some digits in a base, at most 65,535
 abbrev pub digit_in : ℕ → ℕ → Bool
@@ -60,16 +55,9 @@ given_of (GivenLine.Ordered o) = ordered o
 given_of GivenLine.Parted = parted
 given_of (GivenLine.Stored h) = stored (halfword_as h)
 
-abbrev pub says_judged : Judged → Answer Given
-says_judged (Judged.Gives g) = gives (given_of g)
-says_judged Judged.Malformed = stops (fault_number Fault.Malformed)
-says_judged Judged.NoRoom = stops (fault_number Fault.NoRoom)
-
--- what is wrong with a line
-abbrev pub fault_of : Judged → Fault
-fault_of (Judged.Gives g) = Fault.Nothing
-fault_of Judged.Malformed = Fault.Malformed
-fault_of Judged.NoRoom = Fault.NoRoom
+abbrev pub says_judged : Result GivenLine Fault → Answer Given
+says_judged (Ok g) = gives (given_of g)
+says_judged (Err f) = stops (fault_number f)
 
 -- the walk's place and some buffers
 abbrev pub progress_of : Place → Buffers → Progress
@@ -120,25 +108,25 @@ judged_line order p line v = cond (same line []) (gives parted) (and_then (legal
 judged_line storage p line v = provided (same line storage_heading) 16 (gives headed)
 judged_line halfword p line v = halfword_fits p (halfword_from_values v)
 
--- the answer where the walk ends: a fault, or what the end of the text says
+-- with its values a line reads as it is judged; where one is malformed, so is the line
+abbrev pub ReadBy : Wanted → List ℕ → Option (List ℕ) → Type 0
+ReadBy w line (Some v) = (p : Progress) → line_as w p line ≡ judged_line w p line v
+ReadBy w line None = (p : Progress) → line_as w p line ≡ stops 16
+
+-- what the end of the text says
 abbrev pub end_said : Wanted → ℕ → ℕ → Said
 end_said heading n line = refused 16 line
 end_said order n line = taken n
 end_said storage n line = refused 16 line
 end_said halfword n line = taken n
 
-abbrev pub concluded : Fault → ℕ → Place → Said
-concluded Fault.Nothing line p = end_said (wanted_of p.wanted) p.count line
-concluded Fault.Malformed line p = refused (fault_number Fault.Malformed) line
-concluded Fault.NoRoom line p = refused (fault_number Fault.NoRoom) line
-
 abbrev pub said_of : Read → Said
 said_of (whole p) = taken p.count
 said_of (faulty n k) = refused n k
 
 -- a walk over the text: its answer, and what it has staged of a text without fault
-pub record Walked (t : List ℕ) (b : Buffers) (staged : List ℕ) (r : Found) : Type 0 where
-  pub said : says_reading r.reading ≡ said_of (lines_read (lines_of t) (start b) 1)
-  pub held : (p : Progress) → lines_read (lines_of t) (start b) 1 ≡ whole p → p.held ≡ replayed staged p.count r.halfwords b
+pub record Walked (t : List ℕ) (b : Buffers) (s : Staged) (r : Result ℕ Refusal) : Type 0 where
+  pub said : says_reading r ≡ said_of (lines_read (lines_of t) (start b) 1)
+  pub held : (p : Progress) → lines_read (lines_of t) (start b) 1 ≡ whole p → p.held ≡ replayed s.values p.count s.halfwords b
   pub orders : (p : Progress) → lines_read (lines_of t) (start b) 1 ≡ whole p → p.count * 4 ≤ 16384
-  pub landing : (p : Progress) → lines_read (lines_of t) (start b) 1 ≡ whole p → Landing staged p.count r.halfwords (length b.memory)
+  pub landing : (p : Progress) → lines_read (lines_of t) (start b) 1 ≡ whole p → Landing s.values p.count s.halfwords (length b.memory)

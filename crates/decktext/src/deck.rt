@@ -1,163 +1,132 @@
-// Reading a deck text: the walk over lines and values stages what they give; a good text is written.
-ghost use Rattle.std.specs.Prelude.{◌≡◌, ◌≤◌, length};
+// Reading a deck text: the walk over its lines stages what they give; a good text is written.
+ghost use Rattle.std.specs.Prelude.{◌≡◌, ◌≤◌, ◌<◌, length};
 ghost use Rattle.protection.specs.Bits.{bitwise};
-ghost use Rattle.decktext.specs.DigitTable.{DigitTable};
-ghost use Rattle.decktext.specs.Key.{SlotTable};
-ghost use Rattle.decktext.specs.Read.{buffers, outcome, says_reading, number_said, line_said, read_text};
-ghost use Rattle.decktext.specs.Walk.{wanted_of, fault_of, end_said, concluded, Walked};
+ghost use Rattle.decktext.specs.Read.{Buffers, buffers, outcome, says_reading, number_said, line_said, line_read, read_text};
+ghost use Rattle.decktext.specs.Walk.{wanted_of, progress_of, says_judged, Sized, ReadBy, end_said, Walked};
 
-use crate::digit::digit_table;
 use crate::fault::Fault;
-use crate::given::{put_halfwords, put_orders, stage};
-use crate::line::{
-    Judged, Progress, Wanted, advance, judge, sizes_of, start, value, values_wanted,
-};
-use crate::mnemonic::slot_table;
+use crate::given::Given;
+use crate::line::{Progress, Sizes, Wanted, advance, judge, start, value, values_wanted};
 use crate::reader::{LineSpan, next_line};
+use crate::refusal::Refusal;
 use crate::span::find;
-use crate::value::Value;
-
-// The order count, or a refusal with its line. Line 0 is a text above its limit.
-#[derive(Clone, Copy)]
-pub enum Reading {
-    Taken(u32),
-    Malformed(u32),
-    NoRoom(u32),
-}
+use crate::staged::Staged;
+use crate::tables::Tables;
 
 // The number of a refusal, or 0.
-pub fn number_of(r: Reading) -> u8
+pub fn number_of(r: Result<u32, Refusal>) -> u8
     ensures { result ≡ number_said (says_reading r) }
 {
     match r {
-        Reading::Taken(_) => 0,
-        Reading::Malformed(_) => 16,
-        Reading::NoRoom(_) => 17,
+        Ok(_) => 0,
+        Err(refusal) => u8::from(refusal),
     }
 }
 
 // The line of a refusal, or 0.
-pub fn line_of(r: Reading) -> u32
+pub fn line_of(r: Result<u32, Refusal>) -> u32
     ensures { result ≡ line_said (says_reading r) }
 {
     match r {
-        Reading::Taken(_) => 0,
-        Reading::Malformed(line) => line,
-        Reading::NoRoom(line) => line,
+        Ok(_) => 0,
+        Err(refusal) => refusal.line(),
     }
 }
 
-pub fn read(text: &[u8], cells: &mut [u16], memory: &mut [u16], protect: &mut [u8]) -> Reading
+// The order count, or why the text is refused, which then leaves every buffer as it was.
+pub fn read(
+    text: &[u8],
+    cells: &mut [u16],
+    memory: &mut [u16],
+    protect: &mut [u8],
+) -> Result<u32, Refusal>
     ensures { outcome (buffers cells.new memory.new (bitwise protect.new)) (says_reading result)
         ≡ read_text text.now (buffers cells.old memory.old (bitwise protect.old)) }
 {
     if 32768 < text.len() {
-        return Reading::NoRoom(0);
+        return Err(Refusal::NoRoom(0));
     }
-    let digits = digit_table();
-    let slots = slot_table();
-    let mut staged = [0u16; 16384];
-    let walked = walk(text, cells, memory, protect, &digits, &slots, &mut staged);
-    let reading = walked.reading;
-    let Reading::Taken(n) = reading else {
-        return reading;
+    let tables = Tables::new();
+    let mut staged = Staged {
+        values: [0; 16384],
+        halfwords: 0,
     };
-    put_orders(&staged, n as usize * 4, cells);
-    put_halfwords(&staged, n, walked.halfwords, memory, protect);
-    reading
+    let n = walk(text, cells, memory, protect, &tables, &mut staged)?;
+    staged.put_orders(n as usize * 4, cells);
+    staged.put_halfwords(n, memory, protect);
+    Ok(n)
 }
 
-// What a walk answers, and how many halfwords it staged.
-#[derive(Clone, Copy)]
-pub struct Found {
-    pub reading: Reading,
-    pub halfwords: usize,
-}
-
-// The walk is left at the first fault, with its line. What the lines give is staged. An order line has
+// The order count, or the first fault with its line. What the lines give is staged. An order line has
 // at least 8 bytes and gives four values, a memory line at least 9 and gives three, so there is room.
 fn walk(
     text: &[u8],
     cells: &[u16],
     memory: &[u16],
     protect: &[u8],
-    digits: &[u8],
-    slots: &[u64],
-    staged: &mut [u16; 16384],
-) -> Found
-    requires { (length text.now ≤ 32768) × (length staged.old ≡ 16384) × DigitTable digits.now × SlotTable slots.now }
+    tables: &Tables,
+    staged: &mut Staged,
+) -> Result<u32, Refusal>
+    requires { (length text.now ≤ 32768) × (staged.old.halfwords ≡ 0) }
     ensures { Walked text.now (buffers cells.now memory.now (bitwise protect.now)) staged.new result }
 {
-    let sizes = sizes_of(cells.len(), memory.len(), protect.len());
+    let sizes = Sizes {
+        cells: cells.len(),
+        memory: memory.len(),
+        protect: protect.len(),
+    };
     let mut p = start();
     let mut at = 0;
     let mut line: u32 = 1;
-    let mut halfwords = 0;
-    let mut fault = Fault::Nothing;
-    'lines: while at < text.len() {
+    while at < text.len() {
         let LineSpan { end, next } = next_line(text, at);
         if end == text.len() {
-            fault = Fault::Malformed;
-            break 'lines;
+            return Err(Refusal::Malformed(line));
         }
-        let w = p.wanted;
-        let wanted = values_wanted(w, end - at);
-        let mut values = [0u16; 4];
-        let mut from = at;
-        let mut i = 0;
-        while i < wanted {
-            let to = find(text, from, end, b' ');
-            let Value::Of(v) = value(w, i, to == end, &text[from..to], digits, slots) else {
-                fault = Fault::Malformed;
-                break 'lines;
-            };
-            values[i] = v;
-            from = to + 1;
-            i += 1;
-        }
-        let judged = judge(p, &text[at..end], values, sizes);
-        let Judged::Gives(g) = judged else {
-            fault = fault_of(judged);
-            break 'lines;
+        let g = match read_line(p, &text[at..end], sizes, tables) {
+            Ok(g) => g,
+            Err(fault) => return Err(fault.at(line)),
         };
-        halfwords = stage(g, p.count, halfwords, staged);
+        staged.stage(g, p.count);
         p = advance(p, g);
         at = next;
         line += 1;
     }
-    let reading = conclude(fault, line, p);
-    Found { reading, halfwords }
+    at_end(line, p)
 }
 
-fn fault_of(j: Judged) -> Fault
-    ensures { result ≡ fault_of j }
+// What a line gives, or its fault.
+fn read_line(p: Progress, line: &[u8], sizes: Sizes, tables: &Tables) -> Result<Given, Fault>
+    requires { (p.count < 65536) × (length line.now ≤ 32768) }
+    ensures { (b : Buffers) → Sized b sizes → says_judged result ≡ line_read (progress_of p b) line.now }
 {
-    match j {
-        Judged::Gives(_) => Fault::Nothing,
-        Judged::Malformed => Fault::Malformed,
-        Judged::NoRoom => Fault::NoRoom,
+    match values_of(p.wanted, line, tables) {
+        Some(values) => judge(p, line, values, sizes),
+        None => Err(Fault::Malformed),
     }
 }
 
-// The fault, where there is one; else what the end of the text says.
-fn conclude(fault: Fault, line: u32, p: Progress) -> Reading
-    ensures { says_reading result ≡ concluded fault line p }
+// The values of a line, or none where one of them is malformed.
+fn values_of(w: Wanted, line: &[u8], tables: &Tables) -> Option<[u16; 4]>
+    requires { length line.now ≤ 32768 }
+    ensures { ReadBy (wanted_of w) line.now result }
 {
-    match fault {
-        Fault::Nothing => at_end(line, p),
-        Fault::Malformed => Reading::Malformed(line),
-        Fault::NoRoom => Reading::NoRoom(line),
+    let end = line.len();
+    let mut values = [0; 4];
+    let mut from = 0;
+    for i in 0..values_wanted(w, end) {
+        let to = find(line, from, end, b' ');
+        values[i] = value(w, i, to == end, &line[from..to], tables)?;
+        from = to + 1;
     }
+    Some(values)
 }
 
-fn at_end(line: u32, p: Progress) -> Reading
+fn at_end(line: u32, p: Progress) -> Result<u32, Refusal>
     ensures { says_reading result ≡ end_said (wanted_of p.wanted) p.count line }
 {
-    let w = p.wanted;
-    match w {
-        Wanted::Heading => Reading::Malformed(line),
-        Wanted::Order => Reading::Taken(p.count),
-        Wanted::Storage => Reading::Malformed(line),
-        Wanted::Halfword => Reading::Taken(p.count),
+    match p.wanted {
+        Wanted::Heading | Wanted::Storage => Err(Refusal::Malformed(line)),
+        Wanted::Order | Wanted::Halfword => Ok(p.count),
     }
 }

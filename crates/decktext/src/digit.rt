@@ -3,16 +3,16 @@ ghost use Rattle.std.specs.Prelude.{◌≡◌};
 ghost use Rattle.decktext.specs.Value.{marked_digit};
 ghost use Rattle.decktext.specs.DigitTable.{DigitTable};
 
+use crate::tables::Tables;
+
 // The value of a digit 0-9 A-F, or 16 for a byte that is none.
-pub fn digit(b: u8, digits: &[u8]) -> u8
-    requires { DigitTable digits.now }
+pub fn digit(b: u8, tables: &Tables) -> u8
     ensures { result ≡ marked_digit b }
 {
-    digits[b as usize]
+    tables.digits[b as usize]
 }
 
-// The compiler puts a constant array on the stack wherever it is used, so this is called once a text,
-// and what it gives is lent to the functions that read digits.
+// Called once a text, by `Tables::new`.
 pub fn digit_table() -> [u8; 256]
     ensures { DigitTable result }
 {

@@ -1,7 +1,6 @@
-// What is wrong with a line, if anything.
-#[derive(Clone, Copy)]
+// What is wrong with a line.
+#[derive(Clone, Copy, PartialEq, Eq)]
 pub enum Fault {
-    Nothing,
     Malformed,
     NoRoom,
 }

@@ -11,7 +11,11 @@ mod given;
 mod line;
 mod mnemonic;
 mod reader;
+mod refusal;
 mod span;
+mod staged;
+mod tables;
 mod value;
 
-pub use deck::{Reading, line_of, number_of, read};
+pub use deck::{line_of, number_of, read};
+pub use refusal::Refusal;

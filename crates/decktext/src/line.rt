@@ -3,17 +3,16 @@ ghost use Rattle.std.specs.Prelude.{◌≡◌, cond, ◌<◌, eqb};
 ghost use Rattle.hexfloat.specs.Answer.{gives, provided, and_then};
 ghost use Rattle.decktext.specs.Text.{same};
 ghost use Rattle.decktext.specs.Value.{says_value, mnemonic_code, decimal_of, protect_of, word_of};
-ghost use Rattle.decktext.specs.DigitTable.{DigitTable};
-ghost use Rattle.decktext.specs.Key.{SlotTable};
 ghost use Rattle.decktext.specs.Format.{legal};
 ghost use Rattle.decktext.specs.Read.{Buffers, start as begun, headed, order_fits, halfword_fits, after_heading, buffered_with, progressed};
 ghost use Rattle.decktext.specs.Walk.{wanted_of, halfword_as, given_of, says_judged, progress_of, Sized, value_count, value_as, in_place, judged_line};
 
+use crate::fault::Fault;
 use crate::given::{Given, Halfword};
 use crate::mnemonic::mnemonic_code;
-use crate::span::is_same;
-use crate::value::{Value, decimal, protect, word};
-use orders::{Legality, Order};
+use crate::tables::Tables;
+use crate::value::{decimal, protect, word};
+use orders::Order;
 use protection::byte_of;
 
 #[derive(Clone, Copy)]
@@ -39,16 +38,6 @@ pub struct Sizes {
     pub protect: usize,
 }
 
-pub fn sizes_of(cells: usize, memory: usize, protect: usize) -> Sizes
-    ensures { (result.cells ≡ cells) × (result.memory ≡ memory) × (result.protect ≡ protect) }
-{
-    Sizes {
-        cells,
-        memory,
-        protect,
-    }
-}
-
 // Before the first line.
 pub fn start() -> Progress
     ensures { (b : Buffers) → progress_of result b ≡ begun b }
@@ -60,83 +49,68 @@ pub fn start() -> Progress
     }
 }
 
-#[derive(Clone, Copy)]
-pub enum Judged {
-    Gives(Given),
-    Malformed,
-    NoRoom,
-}
-
 // How many values a line of so many bytes has: none for a heading and for the empty line.
 pub fn values_wanted(w: Wanted, bytes: usize) -> usize
     ensures { result ≡ value_count (wanted_of w) bytes }
 {
     match w {
-        Wanted::Heading => 0,
+        Wanted::Heading | Wanted::Storage => 0,
         Wanted::Order => if bytes == 0 { 0 } else { 4 },
-        Wanted::Storage => 0,
         Wanted::Halfword => 3,
     }
 }
 
-// Value i of a line; the last one alone ends the line. Two tests, and no `match`, since the jump
-// through a table at each value took a tenth of the reader's time.
-pub fn value(w: Wanted, i: usize, ends: bool, v: &[u8], digits: &[u8], slots: &[u64]) -> Value
-    requires { DigitTable digits.now × SlotTable slots.now }
+// Value i of a line; the last one alone ends the line.
+// Kept: two tests, and no `match`, since the jump through a table at each value took a tenth of the
+// reader's time.
+pub fn value(w: Wanted, i: usize, ends: bool, v: &[u8], tables: &Tables) -> Option<u16>
     ensures { says_value result ≡ value_as (wanted_of w) i ends v.now }
 {
     if let Wanted::Order = w {
-        return in_place(i, ends, 3, order_value(i, v, digits, slots));
+        return in_place(i, ends, 3, order_value(i, v, tables));
     }
     if let Wanted::Halfword = w {
-        return in_place(i, ends, 2, halfword_value(i, v, digits));
+        return in_place(i, ends, 2, halfword_value(i, v, tables));
     }
-    Value::Malformed
+    None
 }
 
-fn order_value(i: usize, v: &[u8], digits: &[u8], slots: &[u64]) -> Value
-    requires { DigitTable digits.now × SlotTable slots.now }
+fn order_value(i: usize, v: &[u8], tables: &Tables) -> Option<u16>
     ensures { says_value result ≡ cond (eqb i 0) (mnemonic_code v.now) (decimal_of v.now) }
 {
     if i == 0 {
-        mnemonic_code(v, slots)
+        mnemonic_code(v, tables)
     } else {
-        decimal(v, digits)
+        decimal(v, tables)
     }
 }
 
-fn halfword_value(i: usize, v: &[u8], digits: &[u8]) -> Value
-    requires { DigitTable digits.now }
+fn halfword_value(i: usize, v: &[u8], tables: &Tables) -> Option<u16>
     ensures { says_value result ≡ cond (eqb i 0) (decimal_of v.now) (cond (eqb i 1) (protect_of v.now) (word_of v.now)) }
 {
     match i {
-        0 => decimal(v, digits),
-        1 => protect(v, digits),
-        _ => word(v, digits),
+        0 => decimal(v, tables),
+        1 => protect(v, tables),
+        _ => word(v, tables),
     }
 }
 
-fn in_place(i: usize, ends: bool, last: usize, v: Value) -> Value
+fn in_place(i: usize, ends: bool, last: usize, v: Option<u16>) -> Option<u16>
     ensures { says_value result ≡ in_place i ends last (says_value v) }
 {
-    if ends {
-        if i == last { v } else { Value::Malformed }
-    } else {
-        if i == last { Value::Malformed } else { v }
-    }
+    if ends == (i == last) { v } else { None }
 }
 
 // What a line gives whose values are v.
-pub fn judge(p: Progress, line: &[u8], v: [u16; 4], s: Sizes) -> Judged
+pub fn judge(p: Progress, line: &[u8], v: [u16; 4], s: Sizes) -> Result<Given, Fault>
     requires { p.count < 65536 }
     ensures { (b : Buffers) → Sized b s → says_judged result ≡ judged_line (wanted_of p.wanted) (progress_of p b) line.now v }
 {
-    let w = p.wanted;
-    match w {
+    match p.wanted {
         Wanted::Heading => judge_heading(line, b"op r1 r2 at"),
         Wanted::Order => {
-            if line.len() == 0 {
-                return Judged::Gives(Given::Parted);
+            if line.is_empty() {
+                return Ok(Given::Parted);
             }
             judge_order(
                 p,
@@ -162,46 +136,42 @@ pub fn judge(p: Progress, line: &[u8], v: [u16; 4], s: Sizes) -> Judged
     }
 }
 
-fn judge_heading(line: &[u8], wanted: &[u8]) -> Judged
+fn judge_heading(line: &[u8], wanted: &[u8]) -> Result<Given, Fault>
     ensures { says_judged result ≡ provided (same line.now wanted.now) 16 (gives headed) }
 {
-    if is_same(line, wanted) {
-        Judged::Gives(Given::Headed)
+    if line == wanted {
+        Ok(Given::Headed)
     } else {
-        Judged::Malformed
+        Err(Fault::Malformed)
     }
 }
 
-fn judge_order(p: Progress, o: Order, s: Sizes) -> Judged
+fn judge_order(p: Progress, o: Order, s: Sizes) -> Result<Given, Fault>
     requires { p.count < 65536 }
     ensures { (b : Buffers) → Sized b s → says_judged result ≡ and_then (legal o) (order_fits (progress_of p b)) }
 {
-    let checked = orders::legal(o);
-    let Legality::Legal(_) = checked else {
-        return Judged::Malformed;
-    };
-    if s.cells < p.count as usize * 4 + 4 {
-        return Judged::NoRoom;
+    if orders::legal(o).is_none() {
+        return Err(Fault::Malformed);
     }
-    Judged::Gives(Given::Ordered(o))
+    if s.cells < p.count as usize * 4 + 4 {
+        return Err(Fault::NoRoom);
+    }
+    Ok(Given::Ordered(o))
 }
 
 #[tactic(auto, unfolding(protection::specs::Form::holds))]
-fn judge_halfword(p: Progress, h: Halfword, s: Sizes) -> Judged
+fn judge_halfword(p: Progress, h: Halfword, s: Sizes) -> Result<Given, Fault>
     ensures { (b : Buffers) → Sized b s → says_judged result ≡ halfword_fits (progress_of p b) (halfword_as h) }
 {
     let at = h.at as u32;
     if at < p.least {
-        return Judged::Malformed;
+        return Err(Fault::Malformed);
     }
     let i = h.at as usize;
-    if s.memory <= i {
-        return Judged::NoRoom;
+    if s.memory <= i || s.protect <= byte_of(i) {
+        return Err(Fault::NoRoom);
     }
-    if s.protect <= byte_of(i) {
-        return Judged::NoRoom;
-    }
-    Judged::Gives(Given::Stored(h))
+    Ok(Given::Stored(h))
 }
 
 #[tactic(auto, unfolding(crate::specs::Read::buffered_with, crate::specs::Read::progressed))]
@@ -210,28 +180,23 @@ pub fn advance(p: Progress, g: Given) -> Progress
     ensures { (b : Buffers) → progress_of result (buffered_with (given_of g) p.count b) ≡ progressed (given_of g) (progress_of p b) }
 {
     match g {
-        Given::Headed => {
-            let w = p.wanted;
-            Progress {
-                wanted: after_heading(w),
-                count: p.count,
-                least: p.least,
-            }
-        }
+        Given::Headed => Progress {
+            wanted: after_heading(p.wanted),
+            ..p
+        },
         Given::Ordered(_) => Progress {
             wanted: Wanted::Order,
             count: p.count + 1,
-            least: p.least,
+            ..p
         },
         Given::Parted => Progress {
             wanted: Wanted::Storage,
-            count: p.count,
-            least: p.least,
+            ..p
         },
         Given::Stored(h) => Progress {
             wanted: Wanted::Halfword,
-            count: p.count,
             least: h.at as u32 + 1,
+            ..p
         },
     }
 }
@@ -240,9 +205,7 @@ fn after_heading(w: Wanted) -> Wanted
     ensures { wanted_of result ≡ after_heading (wanted_of w) }
 {
     match w {
-        Wanted::Heading => Wanted::Order,
-        Wanted::Order => Wanted::Order,
-        Wanted::Storage => Wanted::Halfword,
-        Wanted::Halfword => Wanted::Halfword,
+        Wanted::Heading | Wanted::Order => Wanted::Order,
+        Wanted::Storage | Wanted::Halfword => Wanted::Halfword,
     }
 }

@@ -3,17 +3,16 @@ ghost use Rattle.std.specs.Prelude.{◌≡◌, length, ◌≤◌, ◌<◌};
 ghost use Rattle.decktext.specs.Value.{says_value, mnemonic_code};
 ghost use Rattle.decktext.specs.Key.{name_key, code_by_key, SlotTable};
 
-use crate::value::Value;
+use crate::tables::Tables;
 
 // The code of a mnemonic.
-pub fn mnemonic_code(v: &[u8], slots: &[u64]) -> Value
-    requires { SlotTable slots.now }
+pub fn mnemonic_code(v: &[u8], tables: &Tables) -> Option<u16>
     ensures { says_value result ≡ mnemonic_code v.now }
 {
     if 4 < v.len() {
-        return Value::Malformed;
+        return None;
     }
-    look_up(key(v), slots)
+    look_up(key(v), tables)
 }
 
 // The bytes of a name as one number, and its length.
@@ -22,29 +21,27 @@ fn key(v: &[u8]) -> u64
     ensures { (result ≡ name_key v.now) × (result < 34359738368) }
 {
     let mut n: u64 = 0;
-    let mut i = 0;
-    while i < v.len() {
-        n = n * 256 + v[i] as u64;
-        i += 1;
+    for b in v {
+        n = n * 256 + *b as u64;
     }
     n * 8 + v.len() as u64
 }
 
 // One multiplication finds the only slot where the key can stand.
 #[tactic(auto, unfolding(crate::specs::Key::slot_of))]
-fn look_up(key: u64, slots: &[u64]) -> Value
-    requires { (key < 34359738368) × SlotTable slots.now }
+fn look_up(key: u64, tables: &Tables) -> Option<u16>
+    requires { key < 34359738368 }
     ensures { says_value result ≡ code_by_key key }
 {
-    let e = slots[(key * 1725579 / 0x400_0000 % 64) as usize];
+    let e = tables.slots[(key * 1725579 / 0x400_0000 % 64) as usize];
     if e / 64 == key {
-        Value::Of((e % 64) as u16)
+        Some((e % 64) as u16)
     } else {
-        Value::Malformed
+        None
     }
 }
 
-// Called once a text, as `digit_table` is. (A `match` on the slot is compiled to a jump through a table,
+// Called once a text, by `Tables::new`. (A `match` on the slot is compiled to a jump through a table,
 // which took three tenths of the reader's time.)
 pub fn slot_table() -> [u64; 64]
     ensures { SlotTable result }

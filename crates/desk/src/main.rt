@@ -2,10 +2,7 @@
 // text is refused.
 #![tactic(auto)]
 
-ghost use Rattle.std.specs.Prelude.{◌≤◌};
-
-use decktext::Reading;
-use listing::Listing;
+use decktext::Refusal;
 use std::io::Print;
 use stream::read_all;
 
@@ -22,25 +19,19 @@ fn complain_of_line(rt: HostRuntime, line: u32, what: &[u8]) {
 }
 
 // Why a text is refused, beside the two numbers of the listing.
-fn explain(rt: HostRuntime, r: Reading) {
+fn explain(rt: HostRuntime, r: Refusal) {
     match r {
-        Reading::Taken(_) => {}
-        Reading::Malformed(line) => complain_of_line(
+        Refusal::Malformed(line) => complain_of_line(
             rt,
             line,
             b": not of its form: one blank between values, capitals, no leading zeros, LF at the end\n",
         ),
-        Reading::NoRoom(line) => {
-            if line == 0 {
-                complain(rt, b"desk: the text has more than 32,768 bytes\n");
-                return;
-            }
-            complain_of_line(
-                rt,
-                line,
-                b": no room: at most 4,096 orders, and addresses below 4,096\n",
-            )
-        }
+        Refusal::NoRoom(0) => complain(rt, b"desk: the text has more than 32,768 bytes\n"),
+        Refusal::NoRoom(line) => complain_of_line(
+            rt,
+            line,
+            b": no room: at most 4,096 orders, and addresses below 4,096\n",
+        ),
     }
 }
 
@@ -52,17 +43,12 @@ fn main(rt: HostRuntime) {
         complain(rt, b"desk: standard input cannot be read\n");
         return;
     }
-    let n = input.count;
-    if !write(rt, listing::answer(&text[..n])) {
+    let text = &text[..input.count];
+    let out = listing::answer(text);
+    if rt.stdout().write_all(out.as_bytes()).is_err() {
         complain(rt, b"desk: standard output cannot be written\n");
     }
-    explain(rt, listing::reading(&text[..n]));
-}
-
-fn write(rt: HostRuntime, out: Listing) -> bool
-    requires { out.length ≤ 320 }
-{
-    let n = out.length;
-    let bytes = out.bytes;
-    rt.stdout().write_all(&bytes[..n]).is_ok()
+    if let Err(refusal) = listing::reading(text) {
+        explain(rt, refusal);
+    }
 }

@@ -1,8 +1,8 @@
 // From deck text to the bytes that `desk` writes.
 #![tactic(auto)]
 
+mod digit;
 mod listing;
 mod text;
 
-pub use listing::{answer, reading};
-pub use text::Listing;
+pub use listing::{Listing, answer, reading};

@@ -5,10 +5,13 @@ ghost use Rattle.decktext.specs.Read.{says_reading, read_text};
 ghost use Rattle.listing.specs.Listing.{blank, field, refusal, register_line, register_lines, listed, listing_of};
 ghost use Rattle.listing.specs.Text.{Holds, Appended};
 
-use crate::text::{Listing, empty, with_byte, with_bytes, with_decimal, with_word};
-use decktext::Reading;
+use crate::text::Text;
+use decktext::Refusal;
 use machine::{Ran, Registers};
 use orders::general_at;
+
+// No listing is longer than 307 bytes, whatever the numbers in it.
+pub type Listing = Text<320>;
 
 // Reads the text, runs its orders at seat 0 from a fresh state to a stop, and lists what stands there then.
 pub fn answer(text: &[u8]) -> Listing
@@ -18,27 +21,28 @@ pub fn answer(text: &[u8]) -> Listing
     let mut memory = [0; 4096];
     let mut protect = [0; 512];
     let mut journal = [0; 4096];
-    let reading = decktext::read(text, &mut cells, &mut memory, &mut protect);
-    let Reading::Taken(count) = reading else {
-        return list_refusal(decktext::number_of(reading), decktext::line_of(reading));
-    };
-    let n = count as usize * 4;
-    let limit = 4294967295;
-    let fresh = machine::fresh();
-    list_run(machine::run(
-        fresh,
-        0,
-        &cells[..n],
-        &mut memory,
-        &protect,
-        &mut journal,
-        limit,
-    ))
+    match decktext::read(text, &mut cells, &mut memory, &mut protect) {
+        Ok(count) => {
+            let n = count as usize * 4;
+            let limit = 4294967295;
+            let fresh = machine::fresh();
+            list_run(machine::run(
+                fresh,
+                0,
+                &cells[..n],
+                &mut memory,
+                &protect,
+                &mut journal,
+                limit,
+            ))
+        }
+        Err(refusal) => list_refusal(u8::from(refusal), refusal.line()),
+    }
 }
 
 // What reading the text into the same blank buffers answers, for a program that tells its user why a
 // text is refused.
-pub fn reading(text: &[u8]) -> Reading
+pub fn reading(text: &[u8]) -> Result<u32, Refusal>
     ensures { says_reading result ≡ (read_text text.now blank).said }
 {
     let mut cells = [0; 16384];
@@ -48,62 +52,62 @@ pub fn reading(text: &[u8]) -> Reading
 }
 
 // A number in decimal, and the byte after it.
-fn with_field(t: Listing, n: u64, after: u8) -> Listing
-    requires { t.length + 21 ≤ 320 }
-    ensures appended { Appended t result (field n after) }
-    ensures length_bound { result.length ≤ t.length + 21 }
+fn push_field(out: &mut Listing, n: u64, after: u8)
+    requires { out.old.length + 21 ≤ 320 }
+    ensures appended { Appended out.old out.new (field n after) }
+    ensures length_bound { out.new.length ≤ out.old.length + 21 }
 {
-    with_byte(with_decimal(t, n), after)
+    out.push_decimal(n);
+    out.push(after);
 }
 
 fn list_refusal(number: u8, line: u32) -> Listing
     ensures { Holds result (refusal number line) }
 {
-    let heading = with_bytes(empty(), b"stop line\n");
-    let t = with_field(heading, number as u64, b' ');
-    with_field(t, line as u64, b'\n')
+    let mut out = Listing::new();
+    out.push_bytes(b"stop line\n");
+    push_field(&mut out, number as u64, b' ');
+    push_field(&mut out, line as u64, b'\n');
+    out
 }
 
 fn list_run(r: Ran) -> Listing
     ensures { Holds result (listed r.count (number_of r.stop) r.state.seat0) }
 {
-    let s = r.state;
-    let g = s.seat0;
-    let stop = r.stop;
-    let heading = with_bytes(empty(), b"steps stop next cc mask\n");
-    let steps = with_field(heading, r.count as u64, b' ');
-    let stopped = with_field(steps, machine::number(stop) as u64, b' ');
-    let next = with_field(stopped, g.status.pointer as u64, b' ');
-    let condition = with_field(next, g.status.condition as u64, b' ');
-    let mask = with_field(condition, g.status.mask as u64, b'\n');
-    let registers = with_bytes(mask, b"reg float general\n");
-    with_registers(registers, g)
+    let g = r.state.seat0;
+    let mut out = Listing::new();
+    out.push_bytes(b"steps stop next cc mask\n");
+    push_field(&mut out, r.count as u64, b' ');
+    push_field(&mut out, machine::number(r.stop) as u64, b' ');
+    push_field(&mut out, g.status.pointer as u64, b' ');
+    push_field(&mut out, g.status.condition as u64, b' ');
+    push_field(&mut out, g.status.mask as u64, b'\n');
+    out.push_bytes(b"reg float general\n");
+    push_registers(&mut out, g);
+    out
 }
 
 // The float registers beside the general ones of the selected set.
-fn with_registers(t: Listing, g: Registers) -> Listing
-    requires { t.length ≤ 160 }
-    ensures { Appended t result (register_lines 8 g.float g.general g.status.selector) }
+fn push_registers(out: &mut Listing, g: Registers)
+    requires { out.old.length ≤ 160 }
+    ensures { Appended out.old out.new (register_lines 8 g.float g.general g.status.selector) }
 {
-    let mut next = t;
-    let float = g.float;
-    let general = g.general;
     let selector = g.status.selector as u32;
-    let mut i = 0;
-    while i < 8 {
-        let word = general_at(&general, selector, i as u32);
-        next = with_register(next, i as u8, float[i], word);
-        i += 1;
+    for (i, float) in g.float.iter().enumerate() {
+        let general = general_at(&g.general, selector, i as u32);
+        push_register(out, i as u8, *float, general);
     }
-    next
 }
 
 // A register's number and both contents.
-fn with_register(t: Listing, r: u8, float: u32, general: u32) -> Listing
-    requires { (t.length ≤ 300) × (r < 8) }
-    ensures { Appended t result (register_line r float general) }
+fn push_register(out: &mut Listing, r: u8, float: u32, general: u32)
+    requires { (out.old.length ≤ 300) × (r < 8) }
+    ensures { Appended out.old out.new (register_line r float general) }
 {
-    let number = with_byte(with_byte(t, b'0' + r), b' ');
-    let left = with_byte(with_word(number, float), b' ');
-    with_byte(with_word(left, general), b'\n')
+    out.push(b'0' + r);
+    out.push(b' ');
+    out.push_word(float);
+    out.push(b' ');
+    out.push_word(general);
+    out.push(b'\n');
 }

@@ -6,7 +6,9 @@ ghost use Rattle.std.specs.Io.KnownBytes.{Consumes, IsAtEnd};
 
 use std::io::Read;
 
-// How many bytes were read, or that a read failed.
+// How many bytes were read, and whether a read failed.
+// Kept: the count is an answer where a read fails too, as the clauses of `read_all` say and most callers
+// use it, so a `Result` would hold it on both sides.
 #[derive(Clone, Copy)]
 pub struct Input {
     pub count: usize,

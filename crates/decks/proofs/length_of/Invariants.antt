@@ -2,5 +2,5 @@
 use Rattle.std.proofs.Common.{◌<◌}
 use Rattle.decks.proofs.length_of.Given as goal
 
-abbrev pub invariant-loop-i : goal.invariant-loop-i
-invariant-loop-i l = l.n < 100000
+abbrev pub invariant-loop-b : goal.invariant-loop-b
+invariant-loop-b l = l.n < 100000

@@ -1,49 +1,22 @@
-use native.Mathlib.Nat.{add_assoc}
-use native.Mathlib.Omega.{arith}
-use Rattle.decktext.proofs.Lines.{start, on, found, none}
+use Rattle.std.proofs.Common.{MatchOption, ◌≡◌, ◌<◌, length, rules, tests}
+use Rattle.std.specs.List.{AllWithin, HoldsAt}
+use Rattle.std.proofs.lemmas.Iterator.{YieldsList-from_slice, IsFirst-from_position}
+use Rattle.decktext.proofs.Lines.{part, length_part, found, none}
 use Rattle.decktext.proofs.span.find.Goals as goal
+use Rattle.decktext.proofs.span.find.Goals.{After-position}
 
-pub loop-i-init : goal.loop-i-init
-loop-i-init c = (start c.args.text.now _ _, c.requires.0)
+-- what `position` answers of the part that is searched
+first : (c : After-position) → MatchOption c.position.result (AllWithin (λ x. x ≡ c.args.b → ⊥) (part c.args.from c.args.end c.args.text.now) 0 (length (part c.args.from c.args.end c.args.text.now)))
+    (λ k. (k < length (part c.args.from c.args.end c.args.text.now)) × HoldsAt (λ x. x ≡ c.args.b) (part c.args.from c.args.end c.args.text.now) k × AllWithin (λ x. x ≡ c.args.b → ⊥) (part c.args.from c.args.end c.args.text.now) 0 k)
+first c = IsFirst-from_position _ _ c.position.result (λ x. x ≡ c.args.b) (λ x. x ≡ c.args.b → ⊥) c.position.ensures.ran (YieldsList-from_slice _ c.iter.ensures.rest) (λ x q k. search (rules, tests)) (λ x q k. search (rules, tests))
 
-pub overflow_add-i : goal.overflow_add-i
-overflow_add-i c = omega arith
+pub returns-in-Some : goal.returns-in-Some
+returns-in-Some c =
+    let size = length_part c.args.from c.args.end c.args.text.now c.requires.0 c.requires.1 in
+    let f = rw (c.in-Some.is, size) at (first (goal.at.returns-in-Some c).After-position) in
+    found c.args.text.now c.args.from c.args.end c.args.b c.requires.0 c.in-Some.k f.0 f.1 f.2
 
-pub bounds-text-i : goal.bounds-text-i
-bounds-text-i c = omega arith
-
-pub returns-then-text-i : goal.returns-then-text-i
-returns-then-text-i c = found c.loop-i.invariant.0 _ c.loop-i.invariant.1 c.if-text-i.true
-
-pub overflow_add-i-in-loop-i : goal.overflow_add-i-in-loop-i
-overflow_add-i-in-loop-i c = omega arith
-
-pub bounds-text-i-in-loop-i : goal.bounds-text-i-in-loop-i
-bounds-text-i-in-loop-i c = omega arith
-
-pub overflow_add-result : goal.overflow_add-result
-overflow_add-result c = omega arith
-
-pub returns-then-text-i-2 : goal.returns-then-text-i-2
-returns-then-text-i-2 c = found (on c.loop-i.invariant.0 c.if-text-i.false) _ (omega arith) c.if-text-i-2.true
-
-pub overflow_add-i-in-loop-i-2 : goal.overflow_add-i-in-loop-i-2
-overflow_add-i-in-loop-i-2 c = omega arith
-
-pub loop-i-smaller : goal.loop-i-smaller
-loop-i-smaller c = omega arith
-
-pub loop-i-preserved : goal.loop-i-preserved
-loop-i-preserved c = (rw add_assoc at (on (on c.loop-i.invariant.0 c.if-text-i.false) c.if-text-i-2.false), omega arith)
-
-pub bounds-text-i-then-i-end : goal.bounds-text-i-then-i-end
-bounds-text-i-then-i-end c = omega arith
-
-pub returns-then-text-i-3 : goal.returns-then-text-i-3
-returns-then-text-i-3 c = found c.loop-i.invariant.0 _ c.loop-i.invariant.1 c.if-text-i-3.true
-
-pub returns-else-text-i-3 : goal.returns-else-text-i-3
-returns-else-text-i-3 c = none (on c.loop-i.invariant.0 c.if-text-i-3.false) _ (omega arith) (omega arith)
-
-pub returns-else-i-end : goal.returns-else-i-end
-returns-else-i-end c = none c.loop-i.invariant.0 _ (omega arith) c.if-i-end.false
+pub returns-in-None : goal.returns-in-None
+returns-in-None c =
+    let size = length_part c.args.from c.args.end c.args.text.now c.requires.0 c.requires.1 in
+    none c.args.text.now c.args.from c.args.end c.args.b c.requires.0 (rw (c.in-None.is, size) at (first (goal.at.returns-in-None c).After-position))

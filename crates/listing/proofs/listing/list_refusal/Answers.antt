@@ -1,12 +1,7 @@
-use native.Mathlib.Omega.{arith}
 use Rattle.listing.specs.Listing.{refusal}
 use Rattle.listing.proofs.Appends.{then, whole}
-use borrow.Author.Rules.{rules}
 use Rattle.listing.proofs.listing.list_refusal.Goals as goal
 
 pub returns : goal.returns
 unfolding refusal
-returns c =
-    whole c.empty.ensures.0 (then c.with_bytes-heading.ensures (then c.with_field-t.ensures.appended c.with_field.ensures.appended))
-    (omega (arith, c.with_field.ensures.length_bound, c.with_field-t.ensures.length_bound, c.with_bytes-heading.ensures.size, c.empty.ensures.1))
-    (search rules)
+returns c = whole c.new-out.ensures.0 (then c.push_bytes.ensures (then c.push_field.ensures.appended c.push_field-2.ensures.appended))

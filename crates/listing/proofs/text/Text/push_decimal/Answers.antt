@@ -1,17 +1,17 @@
 use native.Mathlib.Omega.{arith}
 use Rattle.listing.proofs.Decimals.{fewest, fewest_few}
-use Rattle.listing.proofs.text.with_decimal.Goals as goal
+use Rattle.listing.proofs.text.Text.push_decimal.Goals as goal
 
-pub with_bytes-requires : goal.with_bytes-requires
-with_bytes-requires c =
+pub push_bytes-requires : goal.push_bytes-requires
+push_bytes-requires g c =
     let d = c.decimal-k.ensures in
     omega (arith, d.in_bounds.1, fewest_few c.args.n c.decimal-k.result c.ranges.n.fits d.len)
 
 pub returns : goal.returns
-returns c =
+returns g c =
     let d = c.decimal-k.ensures in
     let n = c.args.n in
     let k = c.decimal-k.result in record {
-      appended = rw (d.digits, fewest n k d.len) at c.with_bytes.ensures;
-      length_bound = omega (arith, c.with_bytes.ensures.size, d.in_bounds.1, fewest_few n k c.ranges.n.fits d.len);
+      appended = rw (d.digits, fewest n k d.len) at c.push_bytes.ensures;
+      length_bound = omega (arith, c.push_bytes.ensures.size, d.in_bounds.1, fewest_few n k c.ranges.n.fits d.len);
     }
