@@ -1,6 +1,6 @@
 // The cells of an order, and which of them breaks check 5.
 ghost use Rattle.std.specs.Prelude.{◌≡◌};
-ghost use Rattle.cause.specs.Cell.{first_cell, breaks};
+ghost use Rattle.cause.specs.Cell.{first_cell, breaks, place_of};
 
 use orders::{Order, look_up};
 
@@ -10,6 +10,19 @@ pub enum Cell {
     R1,
     R2,
     At,
+}
+
+impl From<Cell> for u32 {
+    ghost from_gives = { λ c n. n ≡ place_of c };
+
+    fn from(c: Cell) -> u32 {
+        match c {
+            Cell::Code => 0,
+            Cell::R1 => 1,
+            Cell::R2 => 2,
+            Cell::At => 3,
+        }
+    }
 }
 
 // The first cell that breaks the check; `At` where none before it does.

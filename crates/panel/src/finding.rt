@@ -3,7 +3,7 @@ ghost use Rattle.std.specs.Prelude.{◌≡◌};
 ghost use Rattle.unset.specs.Answer.{says_found, says_register};
 ghost use Rattle.panel.specs.Unset.{finding_of, nameless, naming};
 
-use unset::{Found, Register};
+use unset::{Refusal, Register, Unset};
 
 // 0 or the number of the refusal; 1 if there is such a read, else 0; then its order, the register's kind (0 a float,
 // 1 a general one of set 0, 2 of set 1) and its number, which are 0 where there is none.
@@ -32,38 +32,26 @@ fn nothing(number: u32) -> Finding
 fn named(order: u32, register: Register) -> Finding
     ensures { result ≡ naming order (says_register register) }
 {
-    match register {
-        Register::Float(k) => Finding {
-            number: 0,
-            found: 1,
-            order,
-            kind: 0,
-            reg: k,
-        },
-        Register::Set0(k) => Finding {
-            number: 0,
-            found: 1,
-            order,
-            kind: 1,
-            reg: k,
-        },
-        Register::Set1(k) => Finding {
-            number: 0,
-            found: 1,
-            order,
-            kind: 2,
-            reg: k,
-        },
+    let (kind, reg) = match register {
+        Register::Float(k) => (0, k),
+        Register::Set0(k) => (1, k),
+        Register::Set1(k) => (2, k),
+    };
+    Finding {
+        number: 0,
+        found: 1,
+        order,
+        kind,
+        reg,
     }
 }
 
-pub fn told(found: Found) -> Finding
+pub fn told(found: Result<Option<Unset>, Refusal>) -> Finding
     ensures { result ≡ finding_of (says_found found) }
 {
     match found {
-        Found::DeckSize => nothing(1),
-        Found::IllegalOrder => nothing(5),
-        Found::Nothing => nothing(0),
-        Found::Unset(order, register) => named(order, register),
+        Ok(Some(unset)) => named(unset.order, unset.register),
+        Ok(None) => nothing(0),
+        Err(refusal) => nothing(u8::from(refusal) as u32),
     }
 }

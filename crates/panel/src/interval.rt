@@ -7,7 +7,7 @@ ghost use Rattle.stretch.specs.Answer.{says_found};
 ghost use Rattle.panel.specs.Stretch.{interval_of, TellsStretch};
 
 use machine::State;
-use stretch::Found;
+use stretch::{Refusal, Stretch};
 
 // 0 or the number of the refusal; then the first order, the last and the number that it stops by, 0 on a refusal.
 #[repr(C)]
@@ -30,18 +30,17 @@ fn refused(number: u32) -> Interval
     }
 }
 
-fn limits(found: Found) -> Interval
+fn limits(found: Result<Stretch, Refusal>) -> Interval
     ensures { result ≡ interval_of (says_found found) }
 {
     match found {
-        Found::Refused(stop) => refused(machine::number(stop) as u32),
-        Found::Unsuited => refused(21),
-        Found::Stretch { first, last, stop } => Interval {
+        Ok(stretch) => Interval {
             number: 0,
-            first: first as u32,
-            last: last as u32,
-            stop: machine::number(stop) as u32,
+            first: stretch.first as u32,
+            last: stretch.last as u32,
+            stop: machine::number(stretch.stop) as u32,
         },
+        Err(refusal) => refused(u8::from(refusal) as u32),
     }
 }
 
@@ -57,6 +56,5 @@ pub fn stretch_by_value(
         (machine s memory.new journal.new) result }
 {
     let answer = stretch::shortest(s, seat, deck, memory, protect, journal);
-    let found = answer.found;
-    limits(found)
+    limits(answer.found)
 }

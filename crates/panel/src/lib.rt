@@ -24,8 +24,6 @@ ghost use Rattle.panel.specs.Reply.{reply, replied};
 ghost use Rattle.panel.specs.Stretch.{TellsStretch};
 ghost use Rattle.panel.specs.Unset.{Tells};
 
-use chart::Charted;
-use decktext::Reading;
 use finding::{Finding, told};
 use interval::{Interval, stretch_by_value};
 use machine::State;
@@ -118,19 +116,14 @@ pub extern "C" fn panel_read(
     ensures { reply (buffers cells.new memory.new (bitwise protect.new)) result.number result.value
         ≡ replied (read_text text.now (buffers cells.old memory.old (bitwise protect.old))) }
 {
-    let reading = decktext::read(text, cells, memory, protect);
-    match reading {
-        Reading::Taken(count) => Answer {
+    match decktext::read(text, cells, memory, protect) {
+        Ok(count) => Answer {
             number: 0,
             value: count,
         },
-        Reading::Malformed(line) => Answer {
-            number: 16,
-            value: line,
-        },
-        Reading::NoRoom(line) => Answer {
-            number: 17,
-            value: line,
+        Err(refusal) => Answer {
+            number: u8::from(refusal) as u32,
+            value: refusal.line(),
         },
     }
 }
@@ -157,17 +150,16 @@ pub extern "C" fn panel_chart(bound: u16, rank: u32, cells: &mut [u16]) -> Piece
     ensures { (cells.new ≡ (chart_into bound rank cells.old).cells)
         × (result ≡ piece_of (chart_into bound rank cells.old).said) }
 {
-    let charted = chart::list(bound, rank, cells);
-    match charted {
-        Charted::Uneven => Piece {
+    match chart::list(bound, rank, cells) {
+        None => Piece {
             number: 19,
             total: 0,
             written: 0,
         },
-        Charted::Piece { total, written } => Piece {
+        Some(piece) => Piece {
             number: 0,
-            total,
-            written,
+            total: piece.total,
+            written: piece.written,
         },
     }
 }

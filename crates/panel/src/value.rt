@@ -7,12 +7,11 @@ ghost use Rattle.machine.specs.Step.{single, stepped, outcome};
 ghost use Rattle.machine.specs.Run.{ran};
 ghost use Rattle.machine.specs.Back.{backed};
 ghost use Rattle.cause.specs.Cause.{why_of};
-ghost use Rattle.cause.specs.Cell.{place_of};
 ghost use Rattle.panel.specs.Back.{seat_said, TakenBack};
 ghost use Rattle.panel.specs.Explain.{explanation_of};
 
-use cause::{Cause, Cell, Named};
-use machine::{Registers, State, Status, Whose};
+use cause::{Cause, Named};
+use machine::{Registers, State, Status};
 
 // What a step leaves of its seat, and the number of how it ended.
 #[derive(Clone, Copy)]
@@ -85,13 +84,10 @@ pub fn run_by_value(
 }
 
 // 0 too where no step was taken back: the number tells.
-fn seat_said(whose: Whose) -> u32
+fn seat_said(whose: Option<u32>) -> u32
     ensures { result ≡ seat_said whose }
 {
-    match whose {
-        Whose::Nobody => 0,
-        Whose::Seat(k) => k,
-    }
+    whose.unwrap_or(0)
 }
 
 pub fn back_by_value(s: State, memory: &mut [u16], protect: &[u8], journal: &mut [u32]) -> Answered
@@ -117,17 +113,6 @@ pub struct Explanation {
     pub values: [u32; 4],
 }
 
-fn place(cell: Cell) -> u32
-    ensures { result ≡ place_of cell }
-{
-    match cell {
-        Cell::Code => 0,
-        Cell::R1 => 1,
-        Cell::R2 => 2,
-        Cell::At => 3,
-    }
-}
-
 fn explain(c: Cause) -> Explanation
     ensures { result ≡ explanation_of c }
 {
@@ -142,7 +127,7 @@ fn explain(c: Cause) -> Explanation
         Named::Cell(cell) => Explanation {
             number,
             count: 1,
-            values: [place(cell), 0, 0, 0],
+            values: [u32::from(cell), 0, 0, 0],
         },
         Named::Address(a) => Explanation {
             number,
