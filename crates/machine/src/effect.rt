@@ -31,45 +31,41 @@ ghost use Rattle.machine.specs.Status.{status};
 use crate::change::{Change, float_change, storage_change};
 use crate::jump::{count_down, jump};
 use crate::operand::{float_operand, second_operand};
-use crate::state::Status;
+use crate::state::{Onward, Status};
 use crate::stop::Stop;
 use crate::verdict::{Effect, Verdict};
 use hexfloat::{Fault, Sense, Width, Words};
 use orders::{Operation, Order, Verb, general_at};
 
 // A taken step of this change, condition code, mask and selector: the pointer moves on by one.
-fn next(s: Status, change: Change, condition: u32, mask: u32, selector: u16) -> Verdict
-    requires { s.pointer + 1 < 65536 }
-    ensures { says result ≡ gives (effect_from (status condition mask (s.pointer + 1) selector) change) }
+fn next(s: Onward, change: Change, condition: u32, mask: u32, selector: u16) -> Verdict
+    ensures { says result ≡ gives (effect_from (status condition mask (s.status.pointer + 1) selector) change) }
 {
     let status = Status {
         condition,
         mask,
-        pointer: s.pointer + 1,
+        pointer: s.status.pointer + 1,
         selector,
     };
     Ok(Effect { change, status })
 }
 
 // Mask and selector stay.
-fn granted(s: Status, change: Change, condition: u8) -> Verdict
-    requires { s.pointer + 1 < 65536 }
-    ensures { says result ≡ gives (next_effect s change condition) }
+fn granted(s: Onward, change: Change, condition: u8) -> Verdict
+    ensures { says result ≡ gives (next_effect s.status change condition) }
 {
-    next(s, change, condition as u32, s.mask, s.selector)
+    next(s, change, condition as u32, s.status.mask, s.status.selector)
 }
 
 // The condition code stays as well.
-fn granted_as_is(s: Status, change: Change) -> Verdict
-    requires { s.pointer + 1 < 65536 }
-    ensures { says result ≡ gives (kept_condition s change) }
+fn granted_as_is(s: Onward, change: Change) -> Verdict
+    ensures { says result ≡ gives (kept_condition s.status change) }
 {
-    next(s, change, s.condition, s.mask, s.selector)
+    next(s, change, s.status.condition, s.status.mask, s.status.selector)
 }
 
-fn load(width: Width, s: Status, r: u32, b: Words) -> Verdict
-    requires { s.pointer + 1 < 65536 }
-    ensures { says result ≡ gives (loaded width s r b) }
+fn load(width: Width, s: Onward, r: u32, b: Words) -> Verdict
+    ensures { says result ≡ gives (loaded width s.status r b) }
 {
     granted(s, float_change(width, r, b), hexfloat::condition(width, b))
 }
@@ -83,44 +79,39 @@ fn complement(b: Words) -> Words
     }
 }
 
-fn compare(width: Width, s: Status, a: Words, b: Words) -> Verdict
-    requires { s.pointer + 1 < 65536 }
-    ensures { says result ≡ gives (compared_with width s a b) }
+fn compare(width: Width, s: Onward, a: Words, b: Words) -> Verdict
+    ensures { says result ≡ gives (compared_with width s.status a b) }
 {
     granted(s, Change::Nothing, hexfloat::compare(width, a, b))
 }
 
 // CVFX.
-fn fix(s: Status, r: u32, w: u32) -> Verdict
-    requires { s.pointer + 1 < 65536 }
-    ensures { says result ≡ mapped (fixed_into s r) (to_fixed w) }
+fn fix(s: Onward, r: u32, w: u32) -> Verdict
+    ensures { says result ≡ mapped (fixed_into s.status r) (to_fixed w) }
 {
     let c = hexfloat::to_fixed(w).ok_or(Stop::ConvertOverflow)?;
     granted(s, Change::General(r, c.word), c.condition)
 }
 
-fn divide(width: Width, s: Status, r: u32, a: Words, b: Words) -> Verdict
-    requires { s.pointer + 1 < 65536 }
-    ensures { says result ≡ divided width s r a b }
+fn divide(width: Width, s: Onward, r: u32, a: Words, b: Words) -> Verdict
+    ensures { says result ≡ divided width s.status r a b }
 {
-    let q = hexfloat::divide(width, s.mask == 1, a, b);
+    let q = hexfloat::divide(width, s.status.mask == 1, a, b);
     place_result(false, width, s, r, q)
 }
 
-fn sum(sense: Sense, width: Width, s: Status, r: u32, a: Words, b: Words) -> Verdict
-    requires { s.pointer + 1 < 65536 }
-    ensures { says result ≡ summed_into sense width s r a b }
+fn sum(sense: Sense, width: Width, s: Onward, r: u32, a: Words, b: Words) -> Verdict
+    ensures { says result ≡ summed_into sense width s.status r a b }
 {
-    let q = hexfloat::sum(sense, width, s.mask == 1, a, b);
+    let q = hexfloat::sum(sense, width, s.status.mask == 1, a, b);
     place_result(true, width, s, r, q)
 }
 
-fn multiply(width: Width, s: Status, r: u32, a: Words, b: Words) -> Verdict
-    requires { s.pointer + 1 < 65536 }
-    ensures { says result ≡ multiplied width s r a b }
+fn multiply(width: Width, s: Onward, r: u32, a: Words, b: Words) -> Verdict
+    ensures { says result ≡ multiplied width s.status r a b }
 {
     let filled = product_width(width, r);
-    let p = hexfloat::multiply(width, filled, s.mask == 1, a, b);
+    let p = hexfloat::multiply(width, filled, s.status.mask == 1, a, b);
     place_result(false, filled, s, r, p)
 }
 
@@ -140,9 +131,8 @@ pub fn product_width(width: Width, r: u32) -> Width
 }
 
 // A result of arithmetic, which sets the condition code or leaves it.
-fn place_result(sets: bool, width: Width, s: Status, r: u32, res: Result<Words, Fault>) -> Verdict
-    requires { s.pointer + 1 < 65536 }
-    ensures { says result ≡ mapped (result_into sets width s r) (says_result res) }
+fn place_result(sets: bool, width: Width, s: Onward, r: u32, res: Result<Words, Fault>) -> Verdict
+    ensures { says result ≡ mapped (result_into sets width s.status r) (says_result res) }
 {
     let a = res?;
     let change = float_change(width, r, a);
@@ -152,27 +142,24 @@ fn place_result(sets: bool, width: Width, s: Status, r: u32, res: Result<Words, 
     granted_as_is(s, change)
 }
 
-fn load_general(s: Status, r: u32, w: u32) -> Verdict
-    requires { s.pointer + 1 < 65536 }
-    ensures { says result ≡ gives (loaded_general s r w) }
+fn load_general(s: Onward, r: u32, w: u32) -> Verdict
+    ensures { says result ≡ gives (loaded_general s.status r w) }
 {
     granted(s, Change::General(r, w), hexfloat::general_condition(w))
 }
 
 // UM.
-fn set_mask(s: Status, mask: u16) -> Verdict
-    requires { s.pointer + 1 < 65536 }
-    ensures { says result ≡ gives (masked s mask) }
+fn set_mask(s: Onward, mask: u16) -> Verdict
+    ensures { says result ≡ gives (masked s.status mask) }
 {
-    next(s, Change::Nothing, s.condition, mask as u32, s.selector)
+    next(s, Change::Nothing, s.status.condition, mask as u32, s.status.selector)
 }
 
 // SET.
-fn select(s: Status, selector: u16) -> Verdict
-    requires { s.pointer + 1 < 65536 }
-    ensures { says result ≡ gives (selected s selector) }
+fn select(s: Onward, selector: u16) -> Verdict
+    ensures { says result ≡ gives (selected s.status selector) }
 {
-    next(s, Change::Nothing, s.condition, s.mask, selector)
+    next(s, Change::Nothing, s.status.condition, s.status.mask, selector)
 }
 
 // An order whose second operand is b; S, if it has one, is at `at`.
@@ -183,44 +170,44 @@ fn perform(
     o: Order,
     float: &[u32; 8],
     general: &[u32; 16],
-    status: Status,
+    s: Onward,
     at: u32,
     b: Words,
 ) -> Verdict
-    requires { (status.pointer + 1 < 65536) × (o.r1 ≤ 7) × (o.r2 ≤ 7) }
-    ensures { says result ≡ performed verb width o (registers float.now general.now status) at b }
+    requires { (o.r1 ≤ 7) × (o.r2 ≤ 7) }
+    ensures { says result ≡ performed verb width o (registers float.now general.now s.status) at b }
 {
     let r = o.r1 as u32;
-    let selector = status.selector as u32;
+    let selector = s.status.selector as u32;
     match verb {
-        Verb::Load => load(width, status, r, b),
-        Verb::Complement => load(width, status, r, complement(b)),
-        Verb::Compare => compare(width, status, float_operand(width, float, r), b),
-        Verb::Fix => fix(status, r, b.high),
+        Verb::Load => load(width, s, r, b),
+        Verb::Complement => load(width, s, r, complement(b)),
+        Verb::Compare => compare(width, s, float_operand(width, float, r), b),
+        Verb::Fix => fix(s, r, b.high),
         Verb::Float => {
             let c = hexfloat::to_float(b.high);
-            granted(status, Change::Float(r, c.word), c.condition)
+            granted(s, Change::Float(r, c.word), c.condition)
         }
-        Verb::Divide => divide(width, status, r, float_operand(width, float, r), b),
+        Verb::Divide => divide(width, s, r, float_operand(width, float, r), b),
         Verb::Store => {
             let a = float_operand(width, float, r);
-            granted_as_is(status, storage_change(width, at, a))
+            granted_as_is(s, storage_change(width, at, a))
         }
-        Verb::LoadGeneral => load_general(status, r, b.high),
+        Verb::LoadGeneral => load_general(s, r, b.high),
         Verb::StoreGeneral => {
             let w = general_at(general, selector, r);
-            granted_as_is(status, Change::Two(at, w))
+            granted_as_is(s, Change::Two(at, w))
         }
-        Verb::SetMask => set_mask(status, o.r2),
-        Verb::Jump => jump(status, r, o.at),
-        Verb::CountDown => count_down(status, r, general_at(general, selector, r), o.at),
+        Verb::SetMask => set_mask(s, o.r2),
+        Verb::Jump => jump(s, r, o.at),
+        Verb::CountDown => count_down(s, r, general_at(general, selector, r), o.at),
         Verb::Halt => Err(Stop::Halted),
         Verb::Sum(sense) => {
             let a = float_operand(width, float, r);
-            sum(sense, width, status, r, a, b)
+            sum(sense, width, s, r, a, b)
         }
-        Verb::Multiply => multiply(width, status, r, float_operand(width, float, r), b),
-        Verb::Select => select(status, o.r2),
+        Verb::Multiply => multiply(width, s, r, float_operand(width, float, r), b),
+        Verb::Select => select(s, o.r2),
     }
 }
 
@@ -252,5 +239,6 @@ pub fn effect(
         memory,
         at,
     );
-    perform(verb, width, o, float, general, status, at, b)
+    let s = Onward { status };
+    perform(verb, width, o, float, general, s, at, b)
 }

@@ -5,7 +5,7 @@ ghost use Rattle.machine.specs.Jump.{jumps, jumped_to, jumped, one_less, counted
 ghost use Rattle.machine.specs.Says.{says};
 
 use crate::change::Change;
-use crate::state::Status;
+use crate::state::{Onward, Status};
 use crate::verdict::{Effect, Verdict};
 
 // Whether the bit for the condition code is set among JC's three.
@@ -23,27 +23,21 @@ fn is_set(bits: u32, condition: u32) -> bool
 }
 
 // To order `at`, or on by one.
-fn moved(s: Status, jump: bool, at: u16) -> Status
-    requires { s.pointer + 1 < 65536 }
-    ensures { result ≡ jumped_to s jump at }
+fn moved(s: Onward, jump: bool, at: u16) -> Status
+    ensures { result ≡ jumped_to s.status jump at }
 {
-    let pointer = if jump { at } else { s.pointer + 1 };
-    Status {
-        condition: s.condition,
-        mask: s.mask,
-        pointer,
-        selector: s.selector,
-    }
+    let now = s.status;
+    let pointer = if jump { at } else { now.pointer + 1 };
+    Status { pointer, ..now }
 }
 
 #[tactic(auto, unfolding(crate::specs::Jump::jumped))]
-pub fn jump(s: Status, bits: u32, at: u16) -> Verdict
-    requires { s.pointer + 1 < 65536 }
-    ensures { says result ≡ gives (jumped s bits at) }
+pub fn jump(s: Onward, bits: u32, at: u16) -> Verdict
+    ensures { says result ≡ gives (jumped s.status bits at) }
 {
     Ok(Effect {
         change: Change::Nothing,
-        status: moved(s, is_set(bits, s.condition), at),
+        status: moved(s, is_set(bits, s.status.condition), at),
     })
 }
 
@@ -56,9 +50,8 @@ fn one_less(n: u32) -> u32
 
 // JN, where G r holds w.
 #[tactic(auto, unfolding(crate::specs::Jump::counted_down))]
-pub fn count_down(s: Status, r: u32, w: u32, at: u16) -> Verdict
-    requires { s.pointer + 1 < 65536 }
-    ensures { says result ≡ gives (counted_down s r w at) }
+pub fn count_down(s: Onward, r: u32, w: u32, at: u16) -> Verdict
+    ensures { says result ≡ gives (counted_down s.status r w at) }
 {
     let less = one_less(w);
     Ok(Effect {

@@ -1,5 +1,5 @@
 // The state of both seats, and its fresh form.
-ghost use Rattle.std.specs.Prelude.{◌≡◌};
+ghost use Rattle.std.specs.Prelude.{◌≡◌, ◌+◌, ◌<◌};
 ghost use Rattle.machine.specs.Fresh.{fresh_state};
 ghost use Rattle.machine.specs.Machine.{registers};
 ghost use Rattle.machine.specs.Seats.{registers_of, other_of, seated};
@@ -14,6 +14,13 @@ pub struct Status {
     pub mask: u32,
     pub pointer: u16,
     pub selector: u16,
+}
+
+// A status from which the pointer can move on by one.
+#[derive(Clone, Copy)]
+pub struct Onward {
+    pub status: Status,
+    pub ghost room: { status.pointer + 1 < 65536 },
 }
 
 // The registers that a seat's orders see; of the general ones both sets, register r of set s at 8 s + r. The
