@@ -94,5 +94,7 @@ module _ (d : List ℕ) (p : ProtectList) (k limit : ℕ) (start : Machine) wher
         let ends : steps_of d p k (limit - count) x ≡ outcome x 0 stop = rw (left_over h) (step_stop d p k (limit - (count + 1)) stop x v) in
         u.same ∙ rw (ends, add-zero)
 
-  pub under_end : (x : Machine) (count : ℕ) → Under d p k limit start x count → limit ≤ count → steps_of d p k limit start ≡ outcome x count 0
-  under_end x count u h = u.same ∙ rw (steps_none d p k (limit - count) x (omega arith), add-zero)
+  pub under_end : (x : Machine) (count : ℕ) → Under d p k limit start x count → limit ≤ count → count ≤ limit → steps_of d p k limit start ≡ outcome x limit 0
+  under_end x count u h l =
+      let e : count ≡ limit = omega arith in
+      u.same ∙ rw (steps_none d p k (limit - count) x (omega arith), add-zero, e)

@@ -72,8 +72,7 @@ pub fn advance(
         selector,
     };
     let mut used = first;
-    let mut count: u32 = 0;
-    while count < limit {
+    for count in 0..limit {
         let words = journal.len();
         let v = decide(
             seat, float, general, now, other, used, deck, memory, protect, words,
@@ -92,7 +91,6 @@ pub fn advance(
                 used += 1;
             }
         }
-        count += 1;
     }
-    ended(now, used, count, Stop::Taken)
+    ended(now, used, limit, Stop::Taken)
 }

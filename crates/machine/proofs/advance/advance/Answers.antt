@@ -62,12 +62,6 @@ overflow_add-used c =
     let known = committable_seated _ _ _ _ _ _ _ _ _ (sym (c.decide-v.ensures other refl) ∙ ap says c.in-Ok.is) in
     omega (arith, known.count)
 
-pub overflow_add-count : goal.overflow_add-count
-overflow_add-count c = omega (arith, c.loop-count-test.true, c.ranges.limit.fits)
-
-pub loop-count-smaller : goal.loop-count-smaller
-loop-count-smaller c = omega (arith, c.loop-count-test.true)
-
 pub loop-count-preserved : goal.loop-count-preserved
 loop-count-preserved c =
     let after = c.put.ensures in
@@ -85,4 +79,4 @@ shape_of-journal c = (c.loop-count.invariant (bare c.args.other) refl).journal
 pub returns : goal.returns
 returns c =
     let r = c.ended-2.ensures in
-    λ o h. rw (r.0, r.1, r.2, r.3) (sym (under_end _ _ _ _ _ _ _ (c.loop-count.invariant o h) (omega (arith, c.loop-count-test.false))))
+    λ o h. rw (r.0, r.1, r.2, r.3) (sym (under_end _ _ _ _ _ _ _ (c.loop-count.invariant o h) (omega (arith, c.loop-count-test.false)) c.loop-count.auto.count-end))
