@@ -29,6 +29,19 @@ pub struct Advanced {
     pub selector: u16,
 }
 
+impl Advanced {
+    pub fn status(self) -> Status
+        ensures { result ≡ status self.condition self.mask self.pointer self.selector }
+    {
+        Status {
+            condition: self.condition,
+            mask: self.mask,
+            pointer: self.pointer,
+            selector: self.selector,
+        }
+    }
+}
+
 fn ended(s: Status, used: u32, count: u32, stop: Stop) -> Advanced
     ensures { (status result.condition result.mask result.pointer result.selector ≡ s) × (result.used ≡ used) × (result.count ≡ count) × (result.stop ≡ stop) }
 {

@@ -86,16 +86,15 @@ pub fn is_present(span: u32, at: u32, memory: usize) -> bool
 }
 
 // Check 7 for `n` halfwords from `at`.
+// Kept a loop: by `any` every step took a tenth longer.
 pub fn any_protected(protect: &[u8], at: u32, n: u32) -> bool
     ensures { result ≡ any_protected (bitwise protect.now) at n }
 {
-    let mut a = at as usize;
-    let end = a + n as usize;
-    while a < end {
+    let start = at as usize;
+    for a in start..start + n as usize {
         if is_protected(protect, a) {
             return true;
         }
-        a += 1;
     }
     false
 }

@@ -8,7 +8,7 @@ ghost use Rattle.machine.specs.Run.{ran};
 
 use crate::advance::advance;
 use crate::decide::admit;
-use crate::state::{State, Status, assemble, other_of, registers_of};
+use crate::state::{State, assemble, other_of, registers_of};
 use crate::stop::Stop;
 
 #[derive(Clone, Copy)]
@@ -71,12 +71,7 @@ pub fn run(
         journal,
         limit,
     );
-    let status = Status {
-        condition: r.condition,
-        mask: r.mask,
-        pointer: r.pointer,
-        selector: r.selector,
-    };
+    let status = r.status();
     let state = assemble(seat, float, general, status, other, r.used);
     let count = r.count;
     let stop = r.stop;

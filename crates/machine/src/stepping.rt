@@ -52,12 +52,7 @@ pub fn step_seat(
         journal,
         1,
     );
-    let status = Status {
-        condition: r.condition,
-        mask: r.mask,
-        pointer: r.pointer,
-        selector: r.selector,
-    };
+    let status = r.status();
     let registers = Registers {
         float,
         general,

@@ -7,25 +7,19 @@ use Rattle.machine.proofs.Protects.{any_more, any_none}
 use Rattle.machine.proofs.check.any_protected.Goals as goal
 
 pub loop-a-init : goal.loop-a-init
-loop-a-init c = (ap (any_protected (bitwise c.args.protect.now) c.args.at) (omega arith), omega arith)
+loop-a-init c = ap (any_protected (bitwise c.args.protect.now) c.args.at) (omega arith)
 
 pub returns-then-is_protected : goal.returns-then-is_protected
 returns-then-is_protected c =
     rw (
-      c.loop-a.invariant.0,
+      c.loop-a.invariant,
       any_more _ _ _ c.loop-a-test.true,
       ← c.is_protected.ensures,
       c.if-is_protected.true,
     )
 
-pub loop-a-smaller : goal.loop-a-smaller
-loop-a-smaller c = omega (arith, c.loop-a-test.true)
-
 pub loop-a-preserved : goal.loop-a-preserved
-loop-a-preserved c = (
-  rw (c.loop-a.invariant.0, any_more _ _ _ c.loop-a-test.true, ← c.is_protected.ensures, c.if-is_protected.false),
-  omega (arith, c.loop-a-test.true),
-)
+loop-a-preserved c = rw (c.loop-a.invariant, any_more _ _ _ c.loop-a-test.true, ← c.is_protected.ensures, c.if-is_protected.false)
 
 pub returns : goal.returns
-returns c = sym (c.loop-a.invariant.0 ∙ any_none _ _ _ c.loop-a-test.false)
+returns c = sym (c.loop-a.invariant ∙ any_none _ _ _ c.loop-a-test.false)

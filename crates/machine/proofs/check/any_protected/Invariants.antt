@@ -1,10 +1,7 @@
-use Rattle.std.proofs.Common.{◌≡◌, ◌-◌, ◌≤◌}
+use Rattle.std.proofs.Common.{◌≡◌, ◌+◌, ◌-◌}
 use Rattle.protection.specs.Bits.{bitwise}
 use Rattle.machine.specs.Check.{any_protected}
 use Rattle.machine.proofs.check.any_protected.Given as goal
 
 abbrev pub invariant-loop-a : goal.invariant-loop-a
-invariant-loop-a l = (any_protected (bitwise l.protect) l.at l.n ≡ any_protected (bitwise l.protect) l.a (l.end - l.a)) × (l.a ≤ l.end)
-
-abbrev pub decreases-loop-a : goal.decreases-loop-a
-decreases-loop-a l = l.end - l.a
+invariant-loop-a l = any_protected (bitwise l.protect) l.at l.n ≡ any_protected (bitwise l.protect) l.a (l.at + l.n - l.a)

@@ -14,5 +14,5 @@ pub returns : goal.returns
 unfolding ran
 returns c =
     let passes = eq-eqb _ 0 (passed _ c.admit.ensures c.in_default.is) in
-    rw (c.assemble-state.ensures, passes)
+    rw (c.assemble-state.ensures, c.status-status.ensures, passes)
     (c.advance-r.ensures c.other_of-other.result refl ∙ steps_seated _ _ _ _ _ _ _ _ c.registers_of-own.ensures c.other_of-other.ensures _)

@@ -4,4 +4,4 @@ use Rattle.machine.proofs.Runs.{one_step}
 use Rattle.machine.proofs.stepping.step_seat.Goals as goal
 
 pub returns : goal.returns
-returns c = λ o h. one_step _ _ _ _ _ _ _ (c.advance-r.ensures o h)
+returns c = λ o h. rw c.status-status.ensures (one_step _ _ _ _ _ _ _ (c.advance-r.ensures o h))
