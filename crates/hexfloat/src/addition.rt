@@ -46,9 +46,8 @@ fn invert(p: Parts) -> Parts
     ensures { result ≡ inverted p }
 {
     Parts {
-        sign: if p.sign == 0 { 1 } else { 0 },
-        characteristic: p.characteristic,
-        fraction: p.fraction,
+        sign: (p.sign == 0) as u32,
+        ..p
     }
 }
 

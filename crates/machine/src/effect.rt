@@ -54,14 +54,26 @@ fn next(s: Onward, change: Change, condition: u32, mask: u32, selector: u16) -> 
 fn granted(s: Onward, change: Change, condition: u8) -> Verdict
     ensures { says result ≡ gives (next_effect s.status change condition) }
 {
-    next(s, change, condition as u32, s.status.mask, s.status.selector)
+    next(
+        s,
+        change,
+        condition as u32,
+        s.status.mask,
+        s.status.selector,
+    )
 }
 
 // The condition code stays as well.
 fn granted_as_is(s: Onward, change: Change) -> Verdict
     ensures { says result ≡ gives (kept_condition s.status change) }
 {
-    next(s, change, s.status.condition, s.status.mask, s.status.selector)
+    next(
+        s,
+        change,
+        s.status.condition,
+        s.status.mask,
+        s.status.selector,
+    )
 }
 
 fn load(width: Width, s: Onward, r: u32, b: Words) -> Verdict
@@ -152,14 +164,26 @@ fn load_general(s: Onward, r: u32, w: u32) -> Verdict
 fn set_mask(s: Onward, mask: u16) -> Verdict
     ensures { says result ≡ gives (masked s.status mask) }
 {
-    next(s, Change::Nothing, s.status.condition, mask as u32, s.status.selector)
+    next(
+        s,
+        Change::Nothing,
+        s.status.condition,
+        mask as u32,
+        s.status.selector,
+    )
 }
 
 // SET.
 fn select(s: Onward, selector: u16) -> Verdict
     ensures { says result ≡ gives (selected s.status selector) }
 {
-    next(s, Change::Nothing, s.status.condition, s.status.mask, selector)
+    next(
+        s,
+        Change::Nothing,
+        s.status.condition,
+        s.status.mask,
+        selector,
+    )
 }
 
 // An order whose second operand is b; S, if it has one, is at `at`.

@@ -6,6 +6,7 @@ ghost use Rattle.machine.specs.Journal.{record_at, four_words};
 ghost use Rattle.stretch.specs.Restore.{saved_back, record_back, restored};
 
 // Two halfwords, the left one high.
+// Kept beside the machine's own: that one has a `requires`, which no function that a crate offers has.
 fn put_word(memory: &mut [u16], at: usize, word: u32)
     requires { at + 2 ≤ length memory.old }
     ensures { memory.new ≡ put_word at word memory.old }
@@ -19,19 +20,14 @@ fn put_word(memory: &mut [u16], at: usize, word: u32)
 fn put_saved(memory: &mut [u16], head: u32, place: u32, left: u32, right: u32)
     ensures { memory.new ≡ saved_back (four_words head place left right) memory.old }
 {
-    let kind = head / 524288 % 8;
     let at = place as usize;
-    if kind == 4 {
-        if at + 2 <= memory.len() {
-            put_word(memory, at, left);
-        }
-        return;
-    }
-    if kind == 5 {
-        if at + 4 <= memory.len() {
+    match head / 524288 % 8 {
+        4 if at + 2 <= memory.len() => put_word(memory, at, left),
+        5 if at + 4 <= memory.len() => {
             put_word(memory, at, left);
             put_word(memory, at + 2, right);
         }
+        _ => {}
     }
 }
 
