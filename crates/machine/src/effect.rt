@@ -177,13 +177,8 @@ fn set_mask(s: Onward, mask: u16) -> Verdict
 fn select(s: Onward, selector: u16) -> Verdict
     ensures { says result ≡ gives (selected s.status selector) }
 {
-    next(
-        s,
-        Change::Nothing,
-        s.status.condition,
-        s.status.mask,
-        selector,
-    )
+    let now = s.status;
+    next(s, Change::Nothing, now.condition, now.mask, selector)
 }
 
 // An order whose second operand is b; S, if it has one, is at `at`.
