@@ -1,7 +1,7 @@
 // What the tool answers.
 use crate::cell::Cell;
 
-// What is named beside a number.
+// What is named beside a number. `Nothing` is kept: it is one of the words of specs/Cause.
 #[derive(Clone, Copy)]
 pub enum Named {
     Nothing,
@@ -15,7 +15,7 @@ pub enum Named {
 // The number where a stop of the next step is none of 20 and 1 to 11, or there is none.
 pub const NO_CAUSE: u8 = 18;
 
-// The number of the stop that the next step gives, or `NO_CAUSE`.
+// The number of the stop that the next step gives, or `NO_CAUSE`. Kept a number: 18 is none of a step's.
 #[derive(Clone, Copy)]
 pub struct Cause {
     pub number: u8,

@@ -16,6 +16,8 @@ pub enum Fault {
     Underflow,
 }
 
+// Width and mask are kept apart, here and in what calls this: the one is the order's, the other the seat's.
+//
 // The result of any ratio that has this fraction and the characteristic up - down, a difference of
 // two places so that it can be below 0.
 pub fn limited(

@@ -26,6 +26,7 @@ pub struct Coded {
 }
 
 // A number taken apart.
+// Kept without a fact of its own: how many digits a fraction has goes by the width, a value that no type knows.
 #[derive(Clone, Copy)]
 pub struct Parts {
     pub sign: u32,
@@ -51,6 +52,8 @@ pub fn parts_of(width: Width, a: Words) -> Parts
     }
 }
 
+// Kept beside `long_parts`, as `short_word` beside `long_word`: a long fraction goes over two words, and one
+// function over the width would only ask for it again.
 pub fn short_parts(w: u32) -> Parts
     ensures { result ≡ short_parts w }
 {

@@ -4,6 +4,7 @@ ghost use Rattle.orders.specs.Order.{order_at};
 
 use orders::Order;
 
+// Kept beside the one of `orders`, which asks of each cell whether it is there: here check 4 has said so.
 pub fn order_at(deck: &[u16], p: usize) -> Order
     requires { p * 4 + 4 ≤ length deck.now }
     ensures { result ≡ order_at deck.now p }

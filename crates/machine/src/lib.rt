@@ -5,6 +5,8 @@
 // between the modules may have a `requires`. `fresh`, `step`, `run` and `back` hand a state back,
 // `step_seat` what a step leaves of its seat; `registers_of`, `deck_sized`, `admit`, `entry`, `fetch`
 // and `product_width` are for tools that ask and write nothing.
+//
+// Deck, memory, protect list and journal are kept apart in every call: each is lent by itself, to C too.
 #![tactic(auto)]
 
 mod advance;

@@ -4,7 +4,7 @@ ghost use Rattle.orders.specs.Role.{role_read, role_written};
 
 use crate::order::Verb;
 
-// The registers that r1 names.
+// The registers that r1 names. `Nothing` is kept: it is one of the words of specs/Role.
 #[derive(Clone, Copy)]
 pub enum Role {
     Nothing,

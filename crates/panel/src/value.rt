@@ -21,6 +21,8 @@ pub struct Stepped {
     pub number: u8,
 }
 
+// Kept as numbers, here and in the other structs that C receives.
+//
 // What C receives of a call with two answers: 0 or the number of its refusal, and a count, a line or a seat.
 #[repr(C)]
 #[derive(Clone, Copy)]
