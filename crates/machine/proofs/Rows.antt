@@ -1,4 +1,5 @@
 -- What holds of each row of the table of orders, by a test that is computed over the rows.
+use Rattle.orders.specs.declared.legal_order.LegalOrder.{LegalOrder}
 use Rattle.std.proofs.Common.{◌≡◌, ℕ, ◌≤◌, Bool, true, ◌&&◌, leb, refl, arith, leb-true}
 use Rattle.hexfloat.specs.Answer.{gives}
 use Rattle.orders.specs.declared.order.Operation.{Operation}
@@ -66,3 +67,10 @@ passed op o f w =
 
 pub legal_passed : (o : Order) (op : Operation) → legal_of o ≡ gives op → Passed op o
 legal_passed o op h = let q = legal-row o op h in passed op o (row_passes fitting rows_fit o.code op q.0) q.1
+
+-- of an order that its type says is legal
+pub first_register : (l : LegalOrder) → l.order.r1 ≤ 7
+first_register l = (legal_passed l.order l.operation l.legal).first
+
+pub second_register : (l : LegalOrder) → l.order.r2 ≤ 7
+second_register l = (legal_passed l.order l.operation l.legal).second

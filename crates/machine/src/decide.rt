@@ -3,7 +3,7 @@ ghost use Rattle.std.specs.Prelude.{◌≡◌};
 ghost use Rattle.hexfloat.specs.Answer.{checked, gives};
 ghost use Rattle.protection.specs.Bits.{bitwise};
 ghost use Rattle.orders.specs.Address.{address_of};
-ghost use Rattle.machine.specs.Decide.{held_stop, entry_stop, judged, decided, Judgeable};
+ghost use Rattle.machine.specs.Decide.{held_stop, entry_stop, judged, decided};
 ghost use Rattle.machine.specs.Machine.{registers};
 ghost use Rattle.machine.specs.Seats.{seated, Beside};
 ghost use Rattle.machine.specs.Stops.{number_of};
@@ -12,10 +12,10 @@ ghost use Rattle.machine.specs.Says.{says, says_passed};
 use crate::check::{any_protected, buffers_sized, deck_sized, is_present, state_formed};
 use crate::deck::order_at;
 use crate::effect::effect;
-use crate::state::Status;
+use crate::state::{Onward, Status};
 use crate::stop::Stop;
 use crate::verdict::Verdict;
-use orders::{Operation, Order, address, halts, legal, span, stored};
+use orders::{LegalOrder, address, halts, legal, span, stored};
 
 // Checks 2 and 3.
 #[tactic(auto, unfolding(crate::specs::Decide::held_stop))]
@@ -83,36 +83,34 @@ pub fn entry(
 
 // Checks 12, 13, 6 and 7 of a legal order, then its effect.
 fn judge(
-    op: Operation,
-    o: Order,
+    l: LegalOrder,
     float: &[u32; 8],
     general: &[u32; 16],
-    status: Status,
+    s: Onward,
     used: u32,
     memory: &[u16],
     protect: &[u8],
     journal: usize,
 ) -> Verdict
-    requires { Judgeable op o (registers float.now general.now status) }
     ensures { says result
-        ≡ judged o (registers float.now general.now status) used (bitwise protect.now) memory.now (address_of o general.now status.selector) journal op }
+        ≡ judged l.order (registers float.now general.now s.status) used (bitwise protect.now) memory.now (address_of l.order general.now s.status.selector) journal l.operation }
 {
-    let verb = op.verb;
+    let op = l.operation;
     let full = used as usize >= journal / 4;
-    if halts(verb) {
+    if halts(op.verb) {
         return Err(Stop::Halted);
     }
     if full {
         return Err(Stop::JournalFull);
     }
-    let at = address(o, general, status.selector as u32);
+    let at = address(l.order, general, s.status.selector as u32);
     if !is_present(span(op), at, memory.len()) {
         return Err(Stop::AbsentStorage);
     }
     if any_protected(protect, at, stored(op)) {
         return Err(Stop::ProtectedStorage);
     }
-    effect(op, o, float, general, status, memory, at)
+    effect(l, float, general, s, memory, at)
 }
 
 // Every check of a seat's step, or its effect. Of the other seat the status is looked at and nothing else.
@@ -145,11 +143,9 @@ pub fn decide(
     if p >= deck.len() / 4 {
         return Err(Stop::PointerPast);
     }
-    let o = order_at(deck, p);
-    let Some(op) = legal(o) else {
+    let Some(l) = legal(order_at(deck, p)) else {
         return Err(Stop::IllegalOrder);
     };
-    judge(
-        op, o, float, general, status, used, memory, protect, journal,
-    )
+    let s = Onward { status };
+    judge(l, float, general, s, used, memory, protect, journal)
 }

@@ -1,6 +1,8 @@
 // What a legal order does whose storage operand is there: one arm a verb, over the width of its
 // operands.
-ghost use Rattle.std.specs.Prelude.{◌≡◌, ◌+◌, ◌<◌, ◌≤◌, length};
+ghost use Rattle.std.specs.Prelude.{◌≡◌, ◌+◌, true, length};
+ghost use Rattle.orders.specs.Order.{span_of};
+ghost use Rattle.machine.specs.Check.{present};
 ghost use Rattle.hexfloat.specs.Answer.{gives, mapped};
 ghost use Rattle.hexfloat.specs.Convert.{to_fixed};
 ghost use Rattle.hexfloat.specs.Result.{says_result};
@@ -21,7 +23,6 @@ ghost use Rattle.machine.specs.Effect.{
   selected,
   performed,
   effect_of,
-  Ready,
 };
 ghost use Rattle.machine.specs.Journal.{effect_from};
 ghost use Rattle.machine.specs.Machine.{registers};
@@ -35,7 +36,7 @@ use crate::state::{Onward, Status};
 use crate::stop::Stop;
 use crate::verdict::{Effect, Verdict};
 use hexfloat::{Fault, Sense, Width, Words};
-use orders::{Operation, Order, Verb, general_at};
+use orders::{LegalOrder, Verb, general_at};
 
 // A taken step of this change, condition code, mask and selector: the pointer moves on by one.
 fn next(s: Onward, change: Change, condition: u32, mask: u32, selector: u16) -> Verdict
@@ -184,21 +185,20 @@ fn select(s: Onward, selector: u16) -> Verdict
 // An order whose second operand is b; S, if it has one, is at `at`.
 #[tactic(auto, unfolding(crate::specs::Effect::performed))]
 fn perform(
-    verb: Verb,
-    width: Width,
-    o: Order,
+    l: LegalOrder,
     float: &[u32; 8],
     general: &[u32; 16],
     s: Onward,
     at: u32,
     b: Words,
 ) -> Verdict
-    requires { (o.r1 ≤ 7) × (o.r2 ≤ 7) }
-    ensures { says result ≡ performed verb width o (registers float.now general.now s.status) at b }
+    ensures { says result ≡ performed l.operation.verb l.operation.width l.order (registers float.now general.now s.status) at b }
 {
+    let o = l.order;
+    let width = l.operation.width;
     let r = o.r1 as u32;
     let selector = s.status.selector as u32;
-    match verb {
+    match l.operation.verb {
         Verb::Load => load(width, s, r, b),
         Verb::Complement => load(width, s, r, complement(b)),
         Verb::Compare => compare(width, s, float_operand(width, float, r), b),
@@ -234,30 +234,16 @@ fn perform(
 // here, before anything is written.
 #[tactic(auto, unfolding(crate::specs::Effect::effect_of))]
 pub fn effect(
-    op: Operation,
-    o: Order,
+    l: LegalOrder,
     float: &[u32; 8],
     general: &[u32; 16],
-    status: Status,
+    s: Onward,
     memory: &[u16],
     at: u32,
 ) -> Verdict
-    requires { Ready op o (registers float.now general.now status) (length memory.now) at }
-    ensures { says result ≡ effect_of op o (registers float.now general.now status) memory.now at }
+    requires { present (span_of l.operation) at (length memory.now) ≡ true }
+    ensures { says result ≡ effect_of l.operation l.order (registers float.now general.now s.status) memory.now at }
 {
-    let verb = op.verb;
-    let width = op.width;
-    let place = op.place;
-    let b = second_operand(
-        place,
-        width,
-        o,
-        float,
-        general,
-        status.selector as u32,
-        memory,
-        at,
-    );
-    let s = Onward { status };
-    perform(verb, width, o, float, general, s, at, b)
+    let b = second_operand(l, float, general, s.status.selector as u32, memory, at);
+    perform(l, float, general, s, at, b)
 }

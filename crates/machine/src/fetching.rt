@@ -27,19 +27,18 @@ pub fn fetch(
 ) -> Result<Operands, Stop>
     ensures { says_fetched result ≡ operands_read o float.now general.now selector memory.now (address_of o general.now selector) }
 {
-    let Some(op) = legal(o) else {
+    let Some(l) = legal(o) else {
         return Err(Stop::IllegalOrder);
     };
-    let at = address(o, general, selector);
-    if !is_present(span(op), at, memory.len()) {
+    let operation = l.operation;
+    let at = address(l.order, general, selector);
+    if !is_present(span(operation), at, memory.len()) {
         return Err(Stop::AbsentStorage);
     }
-    let place = op.place;
-    let width = op.width;
-    let first = float_operand(width, float, o.r1 as u32);
-    let second = second_operand(place, width, o, float, general, selector, memory, at);
+    let first = float_operand(operation.width, float, l.order.r1 as u32);
+    let second = second_operand(l, float, general, selector, memory, at);
     Ok(Operands {
-        operation: op,
+        operation,
         first,
         second,
     })

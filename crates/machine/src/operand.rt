@@ -2,11 +2,11 @@
 ghost use Rattle.std.specs.Prelude.{◌≡◌, ◌+◌, ◌≤◌, true, length};
 ghost use Rattle.hexfloat.specs.Word.{short_words};
 ghost use Rattle.machine.specs.Operand.{float_at, float_pair, word_at, long_at, float_operand, storage_operand, second_operand};
-ghost use Rattle.orders.specs.Order.{halfwords, span_as};
+ghost use Rattle.orders.specs.Order.{halfwords, span_of};
 ghost use Rattle.machine.specs.Check.{present};
 
 use hexfloat::{Width, Words};
-use orders::{Order, Place, general_at};
+use orders::{LegalOrder, Place, general_at};
 
 // Kept as a `requires`, here and below: r is a cell of the order, and check 5 bounds it there.
 pub fn float_at(float: &[u32; 8], r: u32) -> u32
@@ -82,20 +82,19 @@ fn storage_operand(width: Width, memory: &[u16], at: usize) -> Words
 
 // The one place where an order's second operand is fetched; S is at `at`.
 pub fn second_operand(
-    place: Place,
-    width: Width,
-    o: Order,
+    l: LegalOrder,
     float: &[u32; 8],
     general: &[u32; 16],
     selector: u32,
     memory: &[u16],
     at: u32,
 ) -> Words
-    requires { (o.r2 ≤ 7) × (present (span_as place width) at (length memory.now) ≡ true) }
-    ensures { result ≡ second_operand place width o float.now general.now selector memory.now at }
+    requires { present (span_of l.operation) at (length memory.now) ≡ true }
+    ensures { result ≡ second_operand l.operation.place l.operation.width l.order float.now general.now selector memory.now at }
 {
-    let r = o.r2 as u32;
-    match place {
+    let width = l.operation.width;
+    let r = l.order.r2 as u32;
+    match l.operation.place {
         Place::Nowhere => short(0),
         Place::FloatRegister => float_operand(width, float, r),
         Place::GeneralRegister => short(general_at(general, selector, r)),

@@ -96,9 +96,9 @@ unfoldable pub legal_of : Order → Answer Operation
 legal_of o = and_then (operation_of o.code) (λ op. provided (within_limits op o) 5 (gives op))
 
 -- what the code's answer says: an order that doesn't pass is a 5
-abbrev pub says_legality : Option Operation → Answer Operation
-says_legality (Some op) = gives op
-says_legality None = stops 5
+abbrev pub says_row : Option Operation → Answer Operation
+says_row (Some op) = gives op
+says_row None = stops 5
 
 -- two halfwords for a short operand, four for a long one
 abbrev pub halfwords : Width → ℕ

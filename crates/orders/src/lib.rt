@@ -7,13 +7,15 @@
 mod addressing;
 mod deck;
 mod general;
+mod legal_order;
+mod legality;
 mod order;
 mod role;
 
 pub use addressing::address;
 pub use deck::order_at;
 pub use general::{general_at, general_cell};
-pub use order::{
-    Operation, Order, Place, Verb, halts, jumps, legal, look_up, selects, span, stored,
-};
+pub use legal_order::LegalOrder;
+pub use legality::legal;
+pub use order::{Operation, Order, Place, Verb, halts, jumps, look_up, selects, span, stored};
 pub use role::{Role, role_read, role_written};

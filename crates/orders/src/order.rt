@@ -1,6 +1,6 @@
-// The orders: document 01's table, and check 5.
+// The orders: document 01's table.
 ghost use Rattle.std.specs.Prelude.{◌≡◌};
-ghost use Rattle.orders.specs.Order.{row, on_float, on_general, on_storage, on_cells, operation_of, legal_of, says_legality, span_of, stored_of, halfwords, is_halt, is_jump, is_select};
+ghost use Rattle.orders.specs.Order.{row, on_float, on_general, on_storage, on_cells, operation_of, says_row, span_of, stored_of, halfwords, is_halt, is_jump, is_select};
 
 use hexfloat::{Sense, Width};
 
@@ -96,7 +96,7 @@ fn on_cells(verb: Verb, r1: u16, r2: u16, at: u16) -> Operation
 // The row of a code; none where the code is unknown.
 #[tactic(auto, unfolding(crate::specs::Order::operation_of, crate::specs::Order::row_among))]
 pub fn look_up(code: u16) -> Option<Operation>
-    ensures { says_legality result ≡ operation_of code }
+    ensures { says_row result ≡ operation_of code }
 {
     let operation = match code {
         1 => on_float(Verb::Load, Width::Short), // LER
@@ -137,24 +137,6 @@ pub fn look_up(code: u16) -> Option<Operation>
         _ => return None,
     };
     Some(operation)
-}
-
-// Check 5: the operation, where the code is known and every cell is within its limit.
-#[tactic(auto, unfolding(crate::specs::Order::legal_of, crate::specs::Order::within_limits))]
-pub fn legal(o: Order) -> Option<Operation>
-    ensures { says_legality result ≡ legal_of o }
-{
-    let op = look_up(o.code)?;
-    if op.r1 < o.r1 {
-        return None;
-    }
-    if op.r2 < o.r2 {
-        return None;
-    }
-    if op.at < o.at {
-        return None;
-    }
-    Some(op)
 }
 
 fn operand_halfwords(width: Width) -> u32

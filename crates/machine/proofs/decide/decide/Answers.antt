@@ -1,10 +1,8 @@
 -- `machine::decide::decide` meets its contract: the checks in turn.
 -- Assumes nothing.
-use Rattle.std.proofs.Common.{sym, ap, ◌∙◌, arith, le-ltb, lt-ltb, eq-eqb}
-use Rattle.orders.specs.Order.{says_legality}
+use Rattle.std.proofs.Common.{arith, le-ltb, lt-ltb, eq-eqb}
 use Rattle.machine.proofs.Checks.{entered}
 use Rattle.machine.proofs.Passed.{passed, refused, handed}
-use Rattle.machine.proofs.Rows.{legal_passed}
 use Rattle.machine.proofs.Seats.{decided_as}
 use Rattle.machine.proofs.decide.decide.Goals as goal
 
@@ -17,16 +15,10 @@ returns-then-p-deck c =
     let passes = eq-eqb _ 0 (passed _ c.admit.ensures c.in_ok-admit.was) in
     λ o h. decided_as _ _ _ _ _ _ _ _ _ _ h (rw (passes, le-ltb _ _ c.if-p-deck.true))
 
-pub judge-requires : goal.judge-requires
-judge-requires c =
+pub invariant_of-s : goal.invariant_of-s
+invariant_of-s c =
     let e = entered _ _ _ _ _ _ _ _ (passed _ c.admit.ensures c.in_ok-admit.was) in
-    let w = legal_passed _ _ (sym c.legal.ensures ∙ ap says_legality c.in-Some.is) in
-    record {
-      first = w.first;
-      second = w.second;
-      span = w.span;
-      onward = omega (arith, e.sized.size, c.if-p-deck.false);
-    }
+    omega (arith, e.sized.size, c.if-p-deck.false)
 
 pub returns-in_default : goal.returns-in_default
 returns-in_default c =
@@ -35,8 +27,8 @@ returns-in_default c =
     (rw (
       passes,
       lt-ltb _ _ c.if-p-deck.false,
-      ← c.order_at-o.ensures,
-      ← c.legal.ensures,
+      ← c.order_at.ensures,
+      ← c.legal.ensures.said,
       c.in_default.is,
     ))
 
@@ -47,8 +39,8 @@ returns c =
     (rw (
       passes,
       lt-ltb _ _ c.if-p-deck.false,
-      ← c.order_at-o.ensures,
-      ← c.legal.ensures,
-      c.in-Some.is,
+      ← c.order_at.ensures,
+      ← c.in-Some.ensures.same,
+      c.in-Some.l.legal,
     )
     c.judge.ensures)

@@ -2,6 +2,7 @@
 -- Assumes nothing.
 use Rattle.std.proofs.Common.{◌/◌, sym, ◌∙◌, arith, le-ltb, lt-ltb}
 use Rattle.machine.specs.Decide.{judged}
+use Rattle.machine.proofs.Rows.{legal_passed}
 use Rattle.machine.proofs.decide.judge.Goals as goal
 
 pub returns-then-halts : goal.returns-then-halts
@@ -16,7 +17,7 @@ returns-then-full c =
     rw (← c.halts.ensures, c.if-halts.false, none)
 
 pub is_present-requires : goal.is_present-requires
-is_present-requires c = rw c.span.ensures c.requires.span
+is_present-requires c = let l = c.args.l in rw c.span.ensures (legal_passed l.order l.operation l.legal).span
 
 pub returns-then-not-is_present : goal.returns-then-not-is_present
 unfolding judged
@@ -52,13 +53,7 @@ returns-then-any_protected c =
     )
 
 pub effect-requires : goal.effect-requires
-effect-requires c =
-    record {
-      first = c.requires.first;
-      second = c.requires.second;
-      there = rw (← c.span.ensures) (sym c.is_present.ensures ∙ c.if-not-is_present.false);
-      onward = c.requires.onward;
-    }
+effect-requires c = rw (← c.span.ensures) (sym c.is_present.ensures ∙ c.if-not-is_present.false)
 
 pub returns : goal.returns
 unfolding judged

@@ -3,11 +3,15 @@
 use Rattle.machine.specs.Operand.{second_operand}
 use Rattle.machine.proofs.Checks.{reach}
 use Rattle.machine.proofs.Placed.{some}
+use Rattle.machine.proofs.Rows.{second_register}
 use Rattle.machine.proofs.operand.second_operand.Goals as goal
+
+pub float_operand-requires : goal.float_operand-requires
+float_operand-requires c = second_register c.args.l
 
 pub storage_operand-requires : goal.storage_operand-requires
 storage_operand-requires c =
-    reach _ _ _ (rw c.in-Storage.is at c.requires.1) (some c.args.width)
+    reach _ _ _ (rw c.in-Storage.is at c.requires) (some c.args.l.operation.width)
 
 pub returns-in-Nowhere : goal.returns-in-Nowhere
 unfolding second_operand
