@@ -121,7 +121,7 @@ none_protected a (suc n) = rw (free a) (none_protected (a + 1) n)
     free : (b : ℕ) → is_protected attempt_protect b ≡ false
     free b = rw (blank 1 (b / 8)) (no_bits b)
 
-module _ (op : Operation) (o : Order) (g : Registers) (m : List ℕ) (a : ℕ) (h : Accessible op o g) where
+module _ (op : Operation) (o : Order) (g : Registers) (m : List ℕ) (a : ℕ) (legal : legal_of o ≡ gives op) (h : Accessible op g) where
   abbrev x : Machine
   x = attempt_machine g.float g.status.mask (second_operand op.place op.width o g.float g.general g.status.selector m a)
 
@@ -134,10 +134,10 @@ module _ (op : Operation) (o : Order) (g : Registers) (m : List ℕ) (a : ℕ) (
   checks_pass =
       rw (
         le-leb g.status.mask 1 h.mask,
-        legal-moved o op h.legal,
+        legal-moved o op legal,
         no_index o,
         h.goes,
-        all_there (span_of op) (legal_passed o op h.legal).span,
+        all_there (span_of op) (legal_passed o op legal).span,
         none_protected 0 (stored_of op),
       )
 
@@ -145,7 +145,7 @@ module _ (op : Operation) (o : Order) (g : Registers) (m : List ℕ) (a : ℕ) (
   same_words =
       ap values_of
       (words_moved op.place op.verb op.width o g.float g.general g.status.selector m a
-      (row_passes (λ code op. reads_none op.place op.verb) rows_read o.code op (legal-row o op h.legal).0))
+      (row_passes (λ code op. reads_none op.place op.verb) rows_read o.code op (legal-row o op legal).0))
 
   -- and what it reads are the same words
   pub attempt_stop : (stepped (attempt_deck o) attempt_protect 0 x).stop ≡ stop_in (effect_of op o g m a)
@@ -153,6 +153,6 @@ module _ (op : Operation) (o : Order) (g : Registers) (m : List ℕ) (a : ℕ) (
   attempt_stop =
       step_number (attempt_deck o) attempt_protect 0 x
       ∙ ap stop_in checks_pass
-      ∙ effect_stop op (moved o) (legal-moved o op h.legal) bare x.memory 0
-      ∙ rw (legal-moved o op h.legal, h.legal) (ap (stop_by_row (gives op) o g.status.mask) same_words)
-      ∙ sym (effect_stop op o h.legal g m a)
+      ∙ effect_stop op (moved o) (legal-moved o op legal) bare x.memory 0
+      ∙ rw (legal-moved o op legal, legal) (ap (stop_by_row (gives op) o g.status.mask) same_words)
+      ∙ sym (effect_stop op o legal g m a)

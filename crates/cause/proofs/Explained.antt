@@ -72,7 +72,7 @@ module _ (op : Operation) (o : Order) (g : Registers) (m : List ℕ) (a : ℕ) (
       cases false e z = never (sym z)
 
 -- of an order that passed checks 5, 12 and 13
-module _ (op : Operation) (o : Order) (g : Registers) (p : ProtectList) (m : List ℕ) (h : Accessible op o g) where
+module _ (op : Operation) (o : Order) (g : Registers) (p : ProtectList) (m : List ℕ) (legal : legal_of o ≡ gives op) (h : Accessible op g) where
   abbrev at : ℕ
   at = address_in o g
 
@@ -81,15 +81,15 @@ module _ (op : Operation) (o : Order) (g : Registers) (p : ProtectList) (m : Lis
 
   pub explain_absent : present (span_of op) at (length m) ≡ false → answer ≡ cause 6 (Named.Address (lowest (is_absent (length m)) at (span_of op)))
   unfolding cause_number named_for lowest_absent
-  explain_absent absent = rw (absent, h.legal)
+  explain_absent absent = rw (absent, legal)
 
   module _ (q : Operands) (operands : gives q ≡ operands_read o g.float g.general g.status.selector m at) where
     reached : present (span_of op) at (length m) ≡ true
-    reached = (given op o g m at h.legal q operands).0
+    reached = (given op o g m at legal q operands).0
 
     pub explain_protected : lowest (is_protected p) at (stored_of op) < at + stored_of op → answer ≡ cause 7 (Named.Address (lowest (is_protected p) at (stored_of op)))
     unfolding cause_number named_for lowest_protected
-    explain_protected l = rw (reached, any_lowest p at (stored_of op), lt-ltb _ _ l, h.legal)
+    explain_protected l = rw (reached, any_lowest p at (stored_of op), lt-ltb _ _ l, legal)
 
     module _ (free : at + stored_of op ≤ lowest (is_protected p) at (stored_of op)) where
       abbrev number : ℕ
@@ -98,8 +98,8 @@ module _ (op : Operation) (o : Order) (g : Registers) (p : ProtectList) (m : Lis
       -- the order is tried
       tried : number ≡ stop_in (effect_of op o g m at)
       tried =
-          ap (λ (z : Operands). (stepped (attempt_deck o) attempt_protect 0 (attempt_machine g.float g.status.mask z.second)).stop) (given op o g m at h.legal q operands).1
-          ∙ attempt_stop op o g m at h
+          ap (λ (z : Operands). (stepped (attempt_deck o) attempt_protect 0 (attempt_machine g.float g.status.mask z.second)).stop) (given op o g m at legal q operands).1
+          ∙ attempt_stop op o g m at legal h
 
       pub explain_taken : number ≡ 0 → answer ≡ cause 18 Named.Nothing
       unfolding cause_number named_for

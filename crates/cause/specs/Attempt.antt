@@ -1,10 +1,9 @@
 -- The machine on which an order is tried with nothing but the float registers, its second operand and the mask. For the private functions of this crate.
 use Rattle.std.specs.Prelude.{ℕ, ◌/◌, ◌%◌, ◌≤◌, ◌≡◌, false, List, [], ◌∷◌, replicate}
 use Rattle.hexfloat.specs.declared.word.Words.{Words}
-use Rattle.hexfloat.specs.Answer.{gives}
 use Rattle.orders.specs.declared.order.Operation.{Operation}
 use Rattle.orders.specs.declared.order.Order.{Order}
-use Rattle.orders.specs.Order.{legal_of, is_halt}
+use Rattle.orders.specs.Order.{is_halt}
 use Rattle.protection.specs.Form.{ProtectList}
 use Rattle.protection.specs.Bits.{bitwise}
 use Rattle.machine.specs.declared.state.Registers.{Registers}
@@ -33,7 +32,6 @@ abbrev pub attempt_machine : List ℕ → ℕ → Words → Machine
 attempt_machine f mask b = machine (seated 0 (attempt_registers f mask) (attempt_registers f mask) 0) (halfwords_of b) (replicate 4 0)
 
 -- what the checks leave known where an order's storage is looked at
-pub record Accessible (op : Operation) (o : Order) (g : Registers) : Type 0 where
-  pub legal : legal_of o ≡ gives op
+pub record Accessible (op : Operation) (g : Registers) : Type 0 where
   pub goes : is_halt op.verb ≡ false
   pub mask : g.status.mask ≤ 1

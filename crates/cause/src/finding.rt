@@ -15,7 +15,7 @@ use crate::naming::{Cause, NO_CAUSE, Named};
 use crate::storage::{lowest_absent, lowest_protected};
 use crate::words::words_read;
 use machine::{Registers, State};
-use orders::{Operation, Order, address, halts, legal, order_at, span, stored};
+use orders::{LegalOrder, Order, address, halts, legal, order_at, span, stored};
 
 // A number that names nothing.
 fn alone(number: u8) -> Cause
@@ -28,10 +28,12 @@ fn alone(number: u8) -> Cause
 }
 
 // Checks 6 and 7 of a legal order, and 8 to 11, for which it is tried.
-fn access(op: Operation, o: Order, registers: Registers, memory: &[u16], protect: &[u8]) -> Cause
-    requires { Accessible op o registers }
-    ensures { result ≡ explained (stop_in (accessed o registers (bitwise protect.now) memory.now (address_in o registers) op)) o registers memory.now (address_in o registers) (bitwise protect.now) }
+fn access(l: LegalOrder, registers: Registers, memory: &[u16], protect: &[u8]) -> Cause
+    requires { Accessible l.operation registers }
+    ensures { result ≡ explained (stop_in (accessed l.order registers (bitwise protect.now) memory.now (address_in l.order registers) l.operation)) l.order registers memory.now (address_in l.order registers) (bitwise protect.now) }
 {
+    let o = l.order;
+    let op = l.operation;
     let float = registers.float;
     let general = registers.general;
     let status = registers.status;
@@ -71,20 +73,19 @@ fn examine(
     requires { registers.status.mask ≤ 1 }
     ensures { result ≡ explained (stop_in (judged_at o registers used (bitwise protect.now) memory.now journal)) o registers memory.now (address_in o registers) (bitwise protect.now) }
 {
-    let Some(op) = legal(o) else {
+    let Some(l) = legal(o) else {
         return Cause {
             number: 5,
             named: Named::Cell(first_broken(o)),
         };
     };
-    let verb = op.verb;
-    if halts(verb) {
+    if halts(l.operation.verb) {
         return alone(NO_CAUSE); // a step's 12
     }
     if used as usize >= journal / 4 {
         return alone(NO_CAUSE); // a step's 13
     }
-    access(op, o, registers, memory, protect)
+    access(l, registers, memory, protect)
 }
 
 // Why the next step of a seat is stopped. Takes what a step takes, and writes nothing.

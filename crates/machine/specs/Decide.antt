@@ -1,6 +1,6 @@
 -- Every check of a step in the table's order, 20, 1, 2, 3, 4, 5, 12, 13, 6, 7 and then 8 to 11 with the effect (document 01, 'Causes and their numbers';
 -- document 02, Job 12).
-use Rattle.std.specs.Prelude.{ℕ, ◌+◌, ◌/◌, ◌<◌, ◌≤◌, cond, not, List, length, nat_le, nat_lt}
+use Rattle.std.specs.Prelude.{ℕ, ◌/◌, cond, not, List, length, nat_le, nat_lt}
 use Rattle.hexfloat.specs.Answer.{Answer, provided, checked, and_then}
 use Rattle.orders.specs.declared.order.Operation.{Operation}
 use Rattle.orders.specs.declared.order.Order.{Order}
@@ -59,10 +59,3 @@ reached d p k s m journal rest =
 -- a step of seat k
 unfoldable pub decided : List ℕ → ProtectList → ℕ → State → List ℕ → ℕ → Answer Effect
 decided d p k s m journal = reached d p k s m journal (λ o. judged_at o (registers_of k s) s.used p m journal)
-
--- what checks 1 to 5 leave known of a legal order
-pub record Judgeable (op : Operation) (o : Order) (g : Registers) : Type 0 where
-  pub first : o.r1 ≤ 7
-  pub second : o.r2 ≤ 7
-  pub span : span_of op ≤ 4
-  pub onward : g.status.pointer + 1 < 65536

@@ -1,6 +1,6 @@
 -- What each order does (document 01, 'Orders', and the sections of document 001 that it names): one case a verb, over the width of its operands.
 -- Words are read from registers and storage before anything is written; the arithmetic is hexfloat's.
-use Rattle.std.specs.Prelude.{◌≡◌, ℕ, ◌+◌, ◌%◌, ◌<◌, ◌≤◌, Bool, true, false, cond, List, ◌==◌}
+use Rattle.std.specs.Prelude.{ℕ, ◌+◌, ◌%◌, Bool, true, false, cond, List, ◌==◌}
 use Rattle.hexfloat.specs.declared.addition.Sense.{Sense}
 use Rattle.hexfloat.specs.declared.word.Width.{Width}
 use Rattle.hexfloat.specs.declared.word.Words.{Words}
@@ -20,11 +20,9 @@ use Rattle.machine.specs.declared.state.Registers.{Registers}
 use Rattle.machine.specs.declared.state.Status.{Status}
 use Rattle.machine.specs.declared.verdict.Effect.{Effect}
 use Rattle.machine.specs.Change.{float_change, storage_change}
-use Rattle.machine.specs.Check.{present}
 use Rattle.machine.specs.Jump.{jumped, counted_down}
 use Rattle.orders.specs.General.{general_at}
 use Rattle.machine.specs.Operand.{float_operand, second_operand}
-use Rattle.orders.specs.Order.{span_of}
 use Rattle.machine.specs.Status.{status}
 
 -- a change and a condition code; mask and selector stay, and the pointer moves on by one
@@ -114,10 +112,3 @@ performed Verb.Select w o g a b = gives (selected g.status o.r2)
 -- a legal order whose S, if it has one, is at a
 unfoldable pub effect_of : Operation → Order → Registers → List ℕ → ℕ → Answer Effect
 effect_of op o g m a = performed op.verb op.width o g a (second_operand op.place op.width o g.float g.general g.status.selector m a)
-
--- what checks 4, 5 and 6 leave known where the effect is worked out
-pub record Ready (op : Operation) (o : Order) (g : Registers) (memory a : ℕ) : Type 0 where
-  pub first : o.r1 ≤ 7
-  pub second : o.r2 ≤ 7
-  pub there : present (span_of op) a memory ≡ true
-  pub onward : g.status.pointer + 1 < 65536

@@ -29,12 +29,11 @@ fn unset_bits(deck: &[u16], unwritten: &[u32; 8192], p: u32) -> u32
     requires { Searched deck.now unwritten.now × (p < length deck.now / 4) }
     ensures { UnsetBits deck.now unwritten.now p result }
 {
-    let o = orders::order_at(deck, p as u16);
-    let Some(op) = orders::legal(o) else {
+    let Some(l) = orders::legal(orders::order_at(deck, p as u16)) else {
         return 0;
     };
     let place = p as usize * 2;
-    read(op, o, 0) & unwritten[place] | read(op, o, 1) & unwritten[place + 1]
+    read(l, 0) & unwritten[place] | read(l, 1) & unwritten[place + 1]
 }
 
 fn lowest_bit(bits: u32) -> u32

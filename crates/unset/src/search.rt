@@ -68,23 +68,22 @@ fn take_up(deck: &[u16], search: &mut Search, place: usize)
     let orders = (deck.len() / 4) as u32;
     let order = (place / 2) as u32;
     let selector = (place % 2) as u32;
-    let o = orders::order_at(deck, order as u16);
-    let Some(op) = orders::legal(o) else {
+    let Some(l) = orders::legal(orders::order_at(deck, order as u16)) else {
         return;
     };
-    let verb = op.verb;
+    let verb = l.operation.verb;
     if orders::halts(verb) {
         return;
     }
-    let bits = unwritten_of(search.unwritten[place], written(op, o, selector));
+    let bits = unwritten_of(search.unwritten[place], written(l, selector));
     let on = Point {
         order: order + 1,
-        selector: selector_after(verb, o, selector),
+        selector: selector_after(verb, l.order, selector),
     };
     reach(search, orders, on, bits);
     if orders::jumps(verb) {
         let to = Point {
-            order: o.at as u32,
+            order: l.order.at as u32,
             selector,
         };
         reach(search, orders, to, bits);

@@ -2,11 +2,10 @@
 ghost use Rattle.std.specs.Prelude.{◌≡◌, ◌≤◌};
 ghost use Rattle.machine.specs.Uses.{index_read, second_read, named, written_by};
 ghost use Rattle.unset.specs.Bits.{bits_of, read_bits};
-ghost use Rattle.unset.specs.Uses.{Numbered};
 
 use crate::bits::{float_bits, general_bit};
 use hexfloat::Width;
-use orders::{Operation, Order, Place, Role};
+use orders::{LegalOrder, Place, Role};
 
 // The index register that r2 names. Register 0 cannot hold an index.
 #[tactic(auto, unfolding(crate::specs::Bits::bits_of, machine::specs::Uses::index_read))]
@@ -21,15 +20,16 @@ fn index_read(s: u32, r: u16) -> u32
 }
 
 #[tactic(auto, unfolding(crate::specs::Bits::bits_of, machine::specs::Uses::second_read))]
-fn second_read(place: Place, width: Width, o: Order, s: u32) -> u32
-    requires { Numbered o s }
-    ensures { result ≡ bits_of (second_read place width o s) }
+fn second_read(l: LegalOrder, s: u32) -> u32
+    requires { s ≤ 1 }
+    ensures { result ≡ bits_of (second_read l.operation.place l.operation.width l.order s) }
 {
-    match place {
+    let r = l.order.r2;
+    match l.operation.place {
         Place::Nowhere => 0,
-        Place::FloatRegister => float_bits(width, o.r2),
-        Place::GeneralRegister => general_bit(s, o.r2),
-        Place::Storage => index_read(s, o.r2),
+        Place::FloatRegister => float_bits(l.operation.width, r),
+        Place::GeneralRegister => general_bit(s, r),
+        Place::Storage => index_read(s, r),
     }
 }
 
@@ -48,21 +48,18 @@ fn named_bits(role: Role, width: Width, r: u16, s: u32) -> u32
     }
 }
 
-pub fn read(op: Operation, o: Order, s: u32) -> u32
-    requires { Numbered o s }
-    ensures { result ≡ read_bits op o s }
+pub fn read(l: LegalOrder, s: u32) -> u32
+    requires { s ≤ 1 }
+    ensures { result ≡ read_bits l.operation l.order s }
 {
-    let verb = op.verb;
-    let width = op.width;
-    let place = op.place;
-    named_bits(orders::role_read(verb), width, o.r1, s) | second_read(place, width, o, s)
+    let op = l.operation;
+    named_bits(orders::role_read(op.verb), op.width, l.order.r1, s) | second_read(l, s)
 }
 
-pub fn written(op: Operation, o: Order, s: u32) -> u32
-    requires { Numbered o s }
-    ensures { result ≡ bits_of (written_by op o s) }
+pub fn written(l: LegalOrder, s: u32) -> u32
+    requires { s ≤ 1 }
+    ensures { result ≡ bits_of (written_by l.operation l.order s) }
 {
-    let verb = op.verb;
-    let width = op.width;
-    named_bits(orders::role_written(verb), width, o.r1, s)
+    let op = l.operation;
+    named_bits(orders::role_written(op.verb), op.width, l.order.r1, s)
 }

@@ -14,30 +14,30 @@ use Rattle.cause.proofs.finding.access.Goals as goal
 use Rattle.cause.proofs.finding.access.Goals.{Start}
 
 -- by what the cell's type says
-small : (c : Start) → address_in c.args.o c.args.registers < 131071
-small c = address_below c.args.o c.args.registers.general c.args.registers.status.selector (search rules)
+small : (c : Start) → address_in c.args.l.order c.args.registers < 131071
+small c = address_below c.args.l.order c.args.registers.general c.args.registers.status.selector (search rules)
 
 pub lowest_absent-requires : goal.lowest_absent-requires
 lowest_absent-requires c =
     let below = small (goal.at.lowest_absent-requires c).Start in
-    omega (arith, c.address-at.ensures, c.span.ensures, (legal_passed _ _ c.requires.legal).span)
+    omega (arith, c.address-at.ensures, c.span.ensures, (legal_passed _ _ c.args.l.legal).span)
 
 pub returns-in_default : goal.returns-in_default
 returns-in_default c =
     let x = c in
-    let absent = unread x.args.op x.args.o x.args.registers x.args.memory.now _ x.requires.legal c.fetch.result c.in_default.not-Ok c.fetch.ensures in
-    rw (c.lowest_absent.ensures, c.span.ensures, c.address-at.ensures) (sym (explain_absent x.args.op x.args.o x.args.registers (bitwise x.args.protect.now) x.args.memory.now x.requires absent))
+    let absent = unread x.args.l.operation x.args.l.order x.args.registers x.args.memory.now _ x.args.l.legal c.fetch.result c.in_default.not-Ok c.fetch.ensures in
+    rw (c.lowest_absent.ensures, c.span.ensures, c.address-at.ensures) (sym (explain_absent x.args.l.operation x.args.l.order x.args.registers (bitwise x.args.protect.now) x.args.memory.now x.args.l.legal x.requires absent))
 
 pub lowest_protected-a-requires : goal.lowest_protected-a-requires
 lowest_protected-a-requires c =
     let below = small (goal.at.lowest_protected-a-requires c).Start in
-    let w = legal_passed _ _ c.requires.legal in
+    let w = legal_passed _ _ c.args.l.legal in
     omega (arith, c.address-at.ensures, c.stored-n.ensures, w.stored, w.span)
 
 pub overflow_add-at : goal.overflow_add-at
 overflow_add-at c =
     let below = small (goal.at.overflow_add-at c).Start in
-    let w = legal_passed _ _ c.requires.legal in
+    let w = legal_passed _ _ c.args.l.legal in
     omega (arith, c.address-at.ensures, c.stored-n.ensures, w.stored, w.span)
 
 pub returns-then-a-at : goal.returns-then-a-at
@@ -45,7 +45,7 @@ returns-then-a-at c =
     let x = c in
     let e = sym (ap says_fetched c.in-Ok.is) ∙ c.fetch.ensures in
     let low = rw (c.lowest_protected-a.ensures, c.stored-n.ensures, c.address-at.ensures) at c.if-a-at.true in
-    rw (c.lowest_protected-a.ensures, c.stored-n.ensures, c.address-at.ensures) (sym (explain_protected x.args.op x.args.o x.args.registers (bitwise x.args.protect.now) x.args.memory.now x.requires _ e low))
+    rw (c.lowest_protected-a.ensures, c.stored-n.ensures, c.address-at.ensures) (sym (explain_protected x.args.l.operation x.args.l.order x.args.registers (bitwise x.args.protect.now) x.args.memory.now x.args.l.legal x.requires _ e low))
 
 pub returns-then-number-eq0 : goal.returns-then-number-eq0
 returns-then-number-eq0 c =
@@ -53,7 +53,7 @@ returns-then-number-eq0 c =
     let e = sym (ap says_fetched c.in-Ok.is) ∙ c.fetch.ensures in
     let free = rw (c.lowest_protected-a.ensures, c.stored-n.ensures, c.address-at.ensures) at c.if-a-at.false in
     let number = c.number-number.ensures ∙ c.attempt.ensures in
-    c.alone.ensures ∙ sym (explain_taken x.args.op x.args.o x.args.registers (bitwise x.args.protect.now) x.args.memory.now x.requires _ e free (sym number ∙ c.if-number-eq0.true))
+    c.alone.ensures ∙ sym (explain_taken x.args.l.operation x.args.l.order x.args.registers (bitwise x.args.protect.now) x.args.memory.now x.args.l.legal x.requires _ e free (sym number ∙ c.if-number-eq0.true))
 
 pub returns : goal.returns
 returns c =
@@ -61,4 +61,4 @@ returns c =
     let e = sym (ap says_fetched c.in-Ok.is) ∙ c.fetch.ensures in
     let free = rw (c.lowest_protected-a.ensures, c.stored-n.ensures, c.address-at.ensures) at c.if-a-at.false in
     let number = c.number-number.ensures ∙ c.attempt.ensures in
-    rw (number, c.words_read-named.ensures) (sym (explain_words x.args.op x.args.o x.args.registers (bitwise x.args.protect.now) x.args.memory.now x.requires _ e free (rw (← number) (search rules))))
+    rw (number, c.words_read-named.ensures) (sym (explain_words x.args.l.operation x.args.l.order x.args.registers (bitwise x.args.protect.now) x.args.memory.now x.args.l.legal x.requires _ e free (rw (← number) (search rules))))

@@ -9,4 +9,4 @@ use Rattle.unset.proofs.finding.is_legal.Goals as goal
 pub returns : goal.returns
 returns c =
     subst (SaysLegal c.args.deck.now c.args.p) (sym c.is_some.ensures)
-    (says_legal c.args.deck.now c.args.p c.legal.result (c.legal.ensures ∙ ap legal_of c.order_at.ensures))
+    (says_legal c.args.deck.now c.args.p c.legal.result (c.legal.ensures.said ∙ ap legal_of c.order_at.ensures))
