@@ -5,36 +5,21 @@
 
 mod answer;
 mod case;
-mod text;
 
-use case::Read;
-use std::io::Print;
-use stream::read_all;
+use answer::Answer;
+use trial::Ended;
 
-// Reads one case, writes its answer, and says whether to go on. A last line that is too short, or
-// any line of another form, ends the run with a message; a read that fails is the input's end.
-fn one_case(rt: HostRuntime) -> bool {
-    let mut line = [0u8; 38];
-    let n = read_all(&mut rt.stdin(), &mut line).count;
-    if n == 0 {
-        return false;
-    }
-    let read = case::parse(&line, n);
-    let Read::Case(c) = read else {
-        let _ = rt
-            .stderr()
-            .write_all(b"arithmetic: a line is not of the form `op mask a b`\n");
-        return false;
-    };
-    let out = text::line(answer::run(c));
-    rt.stdout().write_all(&out).is_ok()
+fn one_case(rt: HostRuntime) -> Result<(), Ended> {
+    let line: [u8; 37] = trial::first_line(rt)?;
+    let case = case::parse(&line)?;
+    println!(rt; "{}", Answer(answer::run(case)))?;
+    Ok(())
 }
 
-// A proved loop has to end: the turns are more than any run uses up.
 fn main(rt: HostRuntime) {
-    for _ in 0..u64::MAX {
-        if !one_case(rt) {
-            break;
-        }
-    }
+    trial::each_case(
+        rt,
+        b"arithmetic: a line is not of the form `op mask a b`\n",
+        one_case,
+    );
 }

@@ -8,8 +8,9 @@ ghost use Rattle.machine.specs.Machine.{machine};
 ghost use Rattle.machine.specs.Stops.{number_of};
 ghost use Rattle.example.specs.Return.{Returned};
 
-use machine::{State, Stop, Whose};
-use trial::Called;
+use machine::{State, Stop};
+use std::io;
+use trial::{Called, Words};
 
 // How a step and the back step after it ended, whose step was taken back, and the state that they leave.
 #[derive(Clone, Copy)]
@@ -17,7 +18,7 @@ struct Return {
     state: State,
     step: Stop,
     back: Stop,
-    whose: Whose,
+    whose: Option<u32>,
 }
 
 // A step, and the back step after it where it was taken. State and memory are then as they were, and the
@@ -35,116 +36,101 @@ fn step_and_return(
         (machine result.state memory.new journal.new) (number_of result.step) (number_of result.back) result.whose }
 {
     let there = machine::step(s, seat, deck, memory, protect, journal);
-    let after = there.state;
     let step = there.stop;
     if machine::number(step) != 0 {
         return Return {
-            state: after,
+            state: there.state,
             step,
             back: Stop::Taken,
-            whose: Whose::Nobody,
+            whose: None,
         };
     }
-    let again = machine::back(after, memory, protect, journal);
-    let state = again.state;
-    let back = again.stop;
-    let whose = again.whose;
+    let again = machine::back(there.state, memory, protect, journal);
     Return {
-        state,
+        state: again.state,
         step,
-        back,
-        whose,
+        back: again.stop,
+        whose: again.whose,
     }
 }
 
-// A call's line, and the registers.
-fn show(rt: HostRuntime, name: [u8; 4], r: Called) {
-    let s = r.state;
-    let g = s.seat0;
-    let float = g.float;
-    let general = g.general;
-    let stop = r.stop;
-    let t = trial::with_byte(trial::with_bytes(trial::empty(), &name), b' ');
-    let t = trial::with_decimal(t, r.count);
-    let t = trial::with_decimal(t, machine::number(stop) as u32);
-    let t = trial::with_decimal(t, g.status.pointer as u32);
-    let t = trial::with_decimal(t, g.status.condition);
-    let t = trial::with_decimal(t, g.status.mask);
-    let t = trial::with_decimal(t, s.used);
-    trial::write(
-        rt,
-        trial::ended(trial::with_decimal(t, g.status.selector as u32)),
-    );
-    trial::write(rt, trial::ended(trial::with_float(trial::empty(), float)));
-    trial::write(rt, trial::ended(trial::with_set_0(trial::empty(), general)));
-    trial::write(rt, trial::ended(trial::with_set_1(trial::empty(), general)));
+// The registers of seat 0 after a call, by name.
+fn show(rt: HostRuntime, name: &str, r: Called) -> io::Result<()> {
+    let seat = r.state.seat0;
+    let status = seat.status;
+    println!(rt;
+        "{name} {} {} {} {} {} {} {}",
+        r.count,
+        u8::from(r.stop),
+        status.pointer,
+        status.condition,
+        status.mask,
+        r.state.used,
+        status.selector
+    )?;
+    println!(rt; "{}", Words(&seat.float))?;
+    println!(rt; "{}", Words(&seat.general[..8]))?;
+    println!(rt; "{}", Words(&seat.general[8..]))
 }
 
-// One call, shown.
-fn called(
-    rt: HostRuntime,
-    byte: u8,
-    name: [u8; 4],
-    s: State,
-    deck: &[u16],
-    memory: &mut [u16],
-    protect: &[u8],
-    journal: &mut [u32],
-) -> State {
-    let r = trial::call(b'0', byte, s, deck, memory, protect, journal);
-    let after = r.state;
-    show(rt, name, r);
-    after
+// What the calls are made on.
+#[derive(Clone, Copy)]
+struct Session {
+    state: State,
+    deck: [u16; 16],
+    memory: [u16; 4],
+    protect: [u8; 1],
+    journal: [u32; 16],
 }
 
-// One step, shown. The step before it, with its return, leaves no trace but in unused journal words.
-fn step(
-    rt: HostRuntime,
-    s: State,
-    deck: &[u16],
-    memory: &mut [u16],
-    protect: &[u8],
-    journal: &mut [u32],
-) -> State {
-    let tried = step_and_return(s, 0, deck, memory, protect, journal);
-    let before = tried.state;
-    called(rt, b's', *b"step", before, deck, memory, protect, journal)
+impl Session {
+    // One call, shown.
+    fn call(&mut self, rt: HostRuntime, name: &str, byte: u8) -> io::Result<()> {
+        let Session {
+            state,
+            deck,
+            memory,
+            protect,
+            journal,
+        } = self;
+        let r = trial::call(b'0', byte, *state, deck, memory, protect, journal);
+        *state = r.state;
+        show(rt, name, r)
+    }
+
+    // One step, shown. The step before it, with its return, leaves no trace but in unused journal words.
+    fn step(&mut self, rt: HostRuntime) -> io::Result<()> {
+        let Session {
+            state,
+            deck,
+            memory,
+            protect,
+            journal,
+        } = self;
+        *state = step_and_return(*state, 0, deck, memory, protect, journal).state;
+        self.call(rt, "step", b's')
+    }
 }
 
-// One back step, shown.
-fn back(
-    rt: HostRuntime,
-    s: State,
-    deck: &[u16],
-    memory: &mut [u16],
-    protect: &[u8],
-    journal: &mut [u32],
-) -> State {
-    called(rt, b'b', *b"back", s, deck, memory, protect, journal)
+fn run(rt: HostRuntime) -> io::Result<()> {
+    let mut session = Session {
+        state: machine::fresh(),
+        // LE 0 0 0, DE 0 0 2, CVFX 1 0 0, HALT 0 0 0
+        deck: [2, 0, 0, 0, 12, 0, 0, 2, 9, 1, 0, 0, 22, 0, 0, 0],
+        memory: [0x4130, 0, 0x4120, 0],
+        protect: [0],
+        journal: [0; 16],
+    };
+    session.call(rt, "run ", b'R')?;
+    for _ in 0..4 {
+        session.call(rt, "back", b'b')?;
+    }
+    for _ in 0..4 {
+        session.step(rt)?;
+    }
+    Ok(())
 }
 
 fn main(rt: HostRuntime) {
-    // LE 0 0 0, DE 0 0 2, CVFX 1 0 0, HALT 0 0 0
-    let deck: [u16; 16] = [2, 0, 0, 0, 12, 0, 0, 2, 9, 1, 0, 0, 22, 0, 0, 0];
-    let mut memory: [u16; 4] = [0x4130, 0, 0x4120, 0];
-    let protect: [u8; 1] = [0; 1];
-    let mut journal: [u32; 16] = [0; 16];
-    let after = called(
-        rt,
-        b'R',
-        *b"run ",
-        machine::fresh(),
-        &deck,
-        &mut memory,
-        &protect,
-        &mut journal,
-    );
-    let s3 = back(rt, after, &deck, &mut memory, &protect, &mut journal);
-    let s2 = back(rt, s3, &deck, &mut memory, &protect, &mut journal);
-    let s1 = back(rt, s2, &deck, &mut memory, &protect, &mut journal);
-    let s0 = back(rt, s1, &deck, &mut memory, &protect, &mut journal);
-    let f1 = step(rt, s0, &deck, &mut memory, &protect, &mut journal);
-    let f2 = step(rt, f1, &deck, &mut memory, &protect, &mut journal);
-    let f3 = step(rt, f2, &deck, &mut memory, &protect, &mut journal);
-    step(rt, f3, &deck, &mut memory, &protect, &mut journal);
+    let _ = run(rt);
 }

@@ -5,71 +5,45 @@
 // with the order and the register.
 #![tactic(auto)]
 
-use decktext::Reading;
-use trial::{Case, Head, Line};
-use unset::{Found, Register};
+use std::{fmt, io};
+use trial::{Desk, Ended};
+use unset::{Refusal, Register, Unset};
 
-fn complain(rt: HostRuntime) -> bool {
-    trial::complain(rt, b"reads")
-}
+#[derive(Clone, Copy)]
+struct Shown(Register);
 
-fn with_register(t: Line, register: Register) -> Line {
-    match register {
-        Register::Float(r) => trial::with_decimal(trial::with_bytes(t, b"float "), r),
-        Register::Set0(r) => trial::with_decimal(trial::with_bytes(t, b"set0 "), r),
-        Register::Set1(r) => trial::with_decimal(trial::with_bytes(t, b"set1 "), r),
-    }
-}
-
-fn line_of(found: Found) -> Line {
-    let t = trial::empty();
-    let t = match found {
-        Found::DeckSize => trial::with_decimal(t, 1),
-        Found::IllegalOrder => trial::with_decimal(t, 5),
-        Found::Nothing => trial::with_bytes(t, b"none "),
-        Found::Unset(order, register) => with_register(trial::with_decimal(t, order), register),
-    };
-    trial::ended(t)
-}
-
-// The change and the question, on so many of the cells.
-fn ask(rt: HostRuntime, head: Head, cells: &mut [u16]) -> bool {
-    let n = head.amount as usize;
-    if cells.len() < n {
-        return complain(rt);
-    }
-    let deck = &mut cells[..n];
-    trial::change(deck, head.place, head.value);
-    trial::write(rt, line_of(unset::first_unset(deck)))
-}
-
-// On the desk's buffers, but with more cells than the largest deck has.
-fn run_case(rt: HostRuntime, text: &[u8], head: Head) -> bool {
-    let mut cells = [0u16; 20000];
-    let mut memory = [0u16; 4096];
-    let mut protect = [0u8; 512];
-    let reading = decktext::read(text, &mut cells, &mut memory, &mut protect);
-    let Reading::Taken(_) = reading else {
-        return complain(rt);
-    };
-    ask(rt, head, &mut cells)
-}
-
-// One case, and whether to go on.
-fn one_case(rt: HostRuntime) -> bool {
-    let mut line = [0u8; 23];
-    let mut space = [0u8; 100000];
-    let Case::Read(head) = trial::next_case(rt, b"reads", &mut line, &mut space) else {
-        return false;
-    };
-    run_case(rt, trial::text_of(&space, head.length), head)
-}
-
-// A proved loop has to end: the turns are more than any run uses up.
-fn main(rt: HostRuntime) {
-    for _ in 0..u64::MAX {
-        if !one_case(rt) {
-            break;
+impl fmt::Display for Shown {
+    fn fmt<W: fmt::Write>(&self, f: &mut fmt::Formatter<W>) -> fmt::Result {
+        match self.0 {
+            Register::Float(r) => write!(f, "float {r}"),
+            Register::Set0(r) => write!(f, "set0 {r}"),
+            Register::Set1(r) => write!(f, "set1 {r}"),
         }
     }
+}
+
+fn show(rt: HostRuntime, found: Result<Option<Unset>, Refusal>) -> io::Result<()> {
+    match found {
+        Ok(Some(Unset { order, register })) => println!(rt; "{order} {}", Shown(register)),
+        Ok(None) => println!(rt; "none"),
+        Err(refusal) => println!(rt; "{}", u8::from(refusal)),
+    }
+}
+
+// More cells than the largest deck has.
+fn one_case(rt: HostRuntime) -> Result<(), Ended> {
+    let head: [u8; 23] = trial::first_line(rt)?;
+    let [length, lent, place, value] = trial::numbers(10, &head, [5, 5, 5, 5])?;
+    let mut space = [0u8; 100000];
+    let text = trial::read_text(rt, &mut space, length as usize)?;
+    let mut desk = Desk::<20000, 0>::blank();
+    desk.read(text)?;
+    let deck = desk.cells.get_mut(..lent as usize).ok_or(Ended::Malformed)?;
+    trial::change(deck, place, value);
+    show(rt, unset::first_unset(deck))?;
+    Ok(())
+}
+
+fn main(rt: HostRuntime) {
+    trial::each_case(rt, b"reads: a case is not of the form\n", one_case);
 }

@@ -1,1 +1,3 @@
+pub mod Desk
 pub mod Call
+pub mod Number

@@ -4,19 +4,14 @@ ghost use Rattle.protection.specs.Bits.{bitwise};
 ghost use Rattle.machine.specs.Machine.{machine};
 ghost use Rattle.trial.specs.Call.{value_of, forward_called, answered, called};
 
-use machine::{State, Stop, Whose};
+use crate::digits::digit;
+use machine::{State, Stop};
 
 // A digit's value; any other byte stands for the largest number.
 fn value_of(byte: u8) -> u32
     ensures { result ≡ value_of byte }
 {
-    if byte < b'0' {
-        return 4294967295;
-    }
-    if b'9' < byte {
-        return 4294967295;
-    }
-    (byte - b'0') as u32
+    digit(10, byte).unwrap_or(u32::MAX)
 }
 
 // What a call of any kind answered.
@@ -25,7 +20,7 @@ pub struct Called {
     pub state: State,
     pub count: u32,
     pub stop: Stop,
-    pub whose: Whose,
+    pub whose: Option<u32>,
 }
 
 // Of a call that took no step back.
@@ -36,11 +31,12 @@ fn forward(state: State, count: u32, stop: Stop) -> Called
         state,
         count,
         stop,
-        whose: Whose::Nobody,
+        whose: None,
     }
 }
 
 // `s` a step of the seat, `b` a back step, a digit a run with that limit, anything else a run with the largest.
+// Kept: deck, memory, protect and journal stand apart, as `called` of the clause is over them and the lists that machine takes.
 pub fn call(
     seat: u8,
     byte: u8,
@@ -54,27 +50,23 @@ pub fn call(
         ≡ called seat byte deck.now (bitwise protect.now) (machine s memory.old journal.old) }
 {
     let k = value_of(seat);
-    if byte == b's' {
-        let r = machine::step(s, k, deck, memory, protect, journal);
-        let state = r.state;
-        let stop = r.stop;
-        let count = if machine::number(stop) == 0 { 1 } else { 0 };
-        return forward(state, count, stop);
+    match byte {
+        b's' => {
+            let r = machine::step(s, k, deck, memory, protect, journal);
+            forward(r.state, u32::from(machine::number(r.stop) == 0), r.stop)
+        }
+        b'b' => {
+            let r = machine::back(s, memory, protect, journal);
+            Called {
+                state: r.state,
+                count: 0,
+                stop: r.stop,
+                whose: r.whose,
+            }
+        }
+        _ => {
+            let r = machine::run(s, k, deck, memory, protect, journal, value_of(byte));
+            forward(r.state, r.count, r.stop)
+        }
     }
-    if byte == b'b' {
-        let r = machine::back(s, memory, protect, journal);
-        let state = r.state;
-        let stop = r.stop;
-        let whose = r.whose;
-        return Called {
-            state,
-            count: 0,
-            stop,
-            whose,
-        };
-    }
-    let r = machine::run(s, k, deck, memory, protect, journal, value_of(byte));
-    let state = r.state;
-    let stop = r.stop;
-    forward(state, r.count, stop)
 }

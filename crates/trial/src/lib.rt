@@ -1,5 +1,5 @@
-// What most of the gate's programs share: input by lines and numbers, cases that have a text, a call by its
-// two bytes, and lines of output.
+// What most of the gate's programs share: cases, input by lines and numbers, a call by its two bytes, and
+// what is shown of it.
 //
 // What a program writes is held to outside vectors, so the contracts here speak of the calls alone; of
 // the text it is proved that it is made safely.
@@ -8,16 +8,15 @@
 mod answer;
 mod calling;
 mod case;
+mod desk;
+mod digits;
 mod input;
-mod line;
 mod listing;
 
-pub use answer::with_state;
+pub use answer::{Halfwords, Standing, Words};
 pub use calling::{Called, call};
-pub use case::{Case, Head, Text, next_case, next_text, text_of};
-pub use input::{Input, Number, case_begins, change, complain, number_at, read_bytes, read_line};
-pub use line::{
-    Line, empty, ended, halfwords, with_byte, with_bytes, with_decimal, with_digits, with_float,
-    with_set_0, with_set_1, write,
-};
+pub use case::{Ended, each_case};
+pub use desk::{Desk, change};
+pub use digits::{number, numbers};
+pub use input::{first_line, read_bytes, read_line, read_text};
 pub use listing::{Listed, list};

@@ -1,20 +1,27 @@
 // One call after the other.
-ghost use Rattle.std.specs.Prelude.{◌≡◌, ◌*◌, ◌≤◌, length};
+ghost use Rattle.std.specs.Prelude.{◌≡◌, ◌+◌, ◌*◌, ◌<◌, ◌≤◌, IsOk, length};
 ghost use Rattle.protection.specs.Bits.{bitwise};
 ghost use Rattle.machine.specs.Machine.{machine};
 ghost use Rattle.trial.specs.Call.{after_calls};
 
-use crate::answer::line_of;
-use crate::calling::call;
-use crate::line::write;
+use crate::calling::{Called, call};
+use crate::case::Ended;
 use machine::State;
+use std::io::Print;
 
 // What stands after the calls that were made, and whether each has its line.
 #[derive(Clone, Copy)]
 pub struct Listed {
     pub state: State,
     pub made: usize,
-    pub written: bool,
+    pub written: Result<(), Ended>,
+}
+
+// A call by its two bytes, whatever they are, and what it answered.
+fn show(rt: HostRuntime, seat: u8, byte: u8, called: Called) -> Result<(), Ended> {
+    rt.stdout().write_all(&[seat, byte, b' '])?;
+    println!(rt; "{called}")?;
+    Ok(())
 }
 
 // Makes one call after the other, two bytes each, and writes a line for each; ends early where a line is not written.
@@ -27,21 +34,24 @@ pub fn list(
     protect: &[u8],
     journal: &mut [u32],
 ) -> Listed
-    ensures { (2 * result.made ≤ length calls.now)
+    ensures stands { (2 * result.made ≤ length calls.now)
         × (machine result.state memory.new journal.new
         ≡ after_calls calls.now deck.now (bitwise protect.now) result.made (machine start memory.old journal.old)) }
+    ensures all { IsOk result.written → length calls.now < 2 * result.made + 2 }
 {
     let mut state = start;
     let mut made = 0;
-    let mut written = true;
-    while written && made < calls.len() / 2 {
-        let seat = calls[2 * made];
-        let byte = calls[2 * made + 1];
+    let mut written = Ok(());
+    for pair in calls.chunks_exact(2) {
+        let seat = pair[0];
+        let byte = pair[1];
         let r = call(seat, byte, state, deck, memory, protect, journal);
-        written = write(rt, line_of(seat, byte, r));
-        let after = r.state;
-        state = after;
+        state = r.state;
         made += 1;
+        written = show(rt, seat, byte, r);
+        if written.is_err() {
+            break;
+        }
     }
     Listed {
         state,
