@@ -7,7 +7,7 @@ ghost use Rattle.decktext.specs.Walk.{wanted_of, progress_of, says_judged, Sized
 use crate::fault::Fault;
 use crate::given::Given;
 use crate::line::{Progress, Sizes, Wanted, advance, judge, start, value, values_wanted};
-use crate::reader::{LineSpan, next_line};
+use crate::reader::LineReader;
 use crate::refusal::Refusal;
 use crate::span::find;
 use crate::staged::Staged;
@@ -57,8 +57,8 @@ pub fn read(
     Ok(n)
 }
 
-// The order count, or the first fault with its line. What the lines give is staged. An order line has
-// at least 8 bytes and gives four values, a memory line at least 9 and gives three, so there is room.
+// The order count, or the first fault with its line, at which the walk is left. What the lines give is
+// staged. An order line has at least 8 bytes and gives four values, a memory line at least 9 and gives three, so there is room.
 fn walk(
     text: &[u8],
     cells: &[u16],
@@ -75,24 +75,24 @@ fn walk(
         memory: memory.len(),
         protect: protect.len(),
     };
+    let mut reader = LineReader::new(text);
     let mut p = start();
-    let mut at = 0;
     let mut line: u32 = 1;
-    while at < text.len() {
-        let LineSpan { end, next } = next_line(text, at);
-        if end == text.len() {
-            return Err(Refusal::Malformed(line));
+    'lines: loop {
+        if reader.is_done() {
+            break 'lines at_end(line, p);
         }
-        let g = match read_line(p, &text[at..end], sizes, tables) {
+        let Some(bytes) = reader.read() else {
+            break 'lines Err(Refusal::Malformed(line));
+        };
+        let g = match read_line(p, bytes, sizes, tables) {
             Ok(g) => g,
-            Err(fault) => return Err(fault.at(line)),
+            Err(fault) => break 'lines Err(fault.at(line)),
         };
         staged.stage(g, p.count);
         p = advance(p, g);
-        at = next;
         line += 1;
     }
-    at_end(line, p)
 }
 
 // What a line gives, or its fault.
