@@ -9,11 +9,10 @@ use lib.ListN.{length, get_or, set, take, drop, length-set}
 use lib.Seq.{get_or-set_same, get_or-set_other, append_snoc, length-take-le, take-suc, drop-cons, set-append_seam}
 use Rattle.orders.specs.declared.order.Order.{Order}
 use Rattle.orders.specs.Order.{order_at}
-use Rattle.protection.specs.Form.{ProtectList, with_mark}
 use Rattle.decktext.specs.Format.{Halfword}
 use Rattle.decktext.specs.Read.{Buffers, Given, headed, ordered, parted, stored, with_cells, buffered_with}
 use Rattle.decktext.specs.Walk.{Storable}
-use Rattle.decktext.specs.Staged.{place_after, values_in, halfwords_with, with_halfword, staged_with, with_front, halfword_at, with_each, put_word, put_mark, with_words, with_protects, replayed, Landing}
+use Rattle.decktext.specs.Staged.{place_after, values_in, halfwords_with, with_halfword, staged_with, with_front, halfword_at, with_each, put_word, put_mark, replayed, Landing}
 use Rattle.decktext.proofs.Cells.{cell_kept, order-put}
 
 -- r has the values of s below a place
@@ -166,11 +165,6 @@ landing_with (stored h) n k s c m z f room fits l =
 
 -- ---- copied out
 
-pub front_length : (s : List ℕ) (m : ℕ) (c : List ℕ) → length (with_front s m c) ≡ length c
-unfolding with_front
-front_length s zero c = refl
-front_length s (suc m) c = length-set (with_front s m c) m (get_or s m 0) ∙ front_length s m c
-
 -- the front is copied as one slice
 pub front_taken : (s : List ℕ) (m : ℕ) (c : List ℕ) → m ≤ length s → m ≤ length c → take m s ++ drop m c ≡ with_front s m c
 unfolding with_front
@@ -180,25 +174,7 @@ front_taken s (suc m) c h k =
     (let e : length (take m s) ≡ m = length-take-le m s (omega arith) in
     sym (ap (λ (i : ℕ). set (take m s ++ get_or c m 0 ∷ drop (suc m) c) i (get_or s m 0)) (sym e) ∙ set-append_seam (take m s) (get_or c m 0) (drop (suc m) c) (get_or s m 0)))
 
-pub front_next : (s : List ℕ) (m : ℕ) (c now : List ℕ) → now ≡ with_front s m c → set now m (get_or s m 0) ≡ with_front s (m + 1) c
-unfolding with_front
-front_next s m c now e = rw (add-one m, e)
-
 pub each_next : {W : Type 0} (put : Halfword → W → W) (s : List ℕ) (n k : ℕ) (w now : W) → now ≡ with_each put s n k w
     → put (halfword_at s (place_after n k)) now ≡ with_each put s n (k + 1) w
 unfolding with_each
 each_next put s n k w now e = rw (add-one k, e)
-
--- a size that one halfword keeps is kept by all
-each_size : {W : Type 0} (put : Halfword → W → W) (size : W → ℕ) → ((h : Halfword) (w : W) → size (put h w) ≡ size w)
-    → (s : List ℕ) (n k : ℕ) (w : W) → size (with_each put s n k w) ≡ size w
-unfolding with_each
-each_size put size keeps s n zero w = refl
-each_size put size keeps s n (suc k) w = keeps (halfword_at s (place_after n k)) (with_each put s n k w) ∙ each_size put size keeps s n k w
-
-pub words_length : (s : List ℕ) (n k : ℕ) (m : List ℕ) → length (with_words s n k m) ≡ length m
-words_length s n k m = each_size put_word length (λ h w. length-set w h.at h.word) s n k m
-
-pub marks_length : (s : List ℕ) (n k : ℕ) (p : ProtectList) → length (with_protects s n k p).bytes ≡ length p.bytes
-unfolding with_mark
-marks_length s n k p = each_size put_mark (λ (x : ProtectList). length x.bytes) (λ h w. length-set w.bytes _ _) s n k p

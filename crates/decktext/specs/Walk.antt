@@ -114,10 +114,10 @@ judged_line order p line v = cond (same line []) (gives parted) (and_then (legal
 judged_line storage p line v = provided (same line storage_heading) 16 (gives headed)
 judged_line halfword p line v = halfword_fits p (halfword_from_values v)
 
--- with its values a line reads as it is judged; where one is malformed, so is the line
-abbrev pub ReadBy : Wanted → List ℕ → Option (List ℕ) → Type 0
-ReadBy w line (Some v) = (p : Progress) → line_as w p line ≡ judged_line w p line v
-ReadBy w line None = (p : Progress) → line_as w p line ≡ stops 16
+-- with its values a line reads as it is judged; a fault of theirs is the line's
+abbrev pub ReadBy : Wanted → List ℕ → Result (List ℕ) Fault → Type 0
+ReadBy w line (Ok v) = (p : Progress) → line_as w p line ≡ judged_line w p line v
+ReadBy w line (Err f) = (p : Progress) → line_as w p line ≡ stops (fault_number f)
 
 -- what the end of the text says
 abbrev pub end_said : Wanted → ℕ → ℕ → Said

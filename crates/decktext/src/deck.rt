@@ -100,14 +100,12 @@ fn read_line(p: Progress, line: &[u8], sizes: Sizes, tables: &Tables) -> Result<
     requires { (p.count < 65536) × (length line.now ≤ 32768) }
     ensures { (b : Buffers) → Sized b sizes → says_judged result ≡ line_read (progress_of p b) line.now }
 {
-    match values_of(p.wanted, line, tables) {
-        Some(values) => judge(p, line, values, sizes),
-        None => Err(Fault::Malformed),
-    }
+    let values = values_of(p.wanted, line, tables)?;
+    judge(p, line, values, sizes)
 }
 
-// The values of a line, or none where one of them is malformed.
-fn values_of(w: Wanted, line: &[u8], tables: &Tables) -> Option<[u16; 4]>
+// The values of a line; the first that is malformed is the line's fault.
+fn values_of(w: Wanted, line: &[u8], tables: &Tables) -> Result<[u16; 4], Fault>
     requires { length line.now ≤ 32768 }
     ensures { ReadBy (wanted_of w) line.now result }
 {
@@ -116,10 +114,13 @@ fn values_of(w: Wanted, line: &[u8], tables: &Tables) -> Option<[u16; 4]>
     let mut from = 0;
     for i in 0..values_wanted(w, end) {
         let to = find(line, from, end, b' ');
-        values[i] = value(w, i, to == end, &line[from..to], tables)?;
+        let Some(v) = value(w, i, to == end, &line[from..to], tables) else {
+            return Err(Fault::Malformed);
+        };
+        values[i] = v;
         from = to + 1;
     }
-    Some(values)
+    Ok(values)
 }
 
 fn at_end(line: u32, p: Progress) -> Result<u32, Refusal>

@@ -1,9 +1,6 @@
 use Rattle.std.specs.Prelude.{Some}
 use borrow.Author.Rules.{rules}
-use mathlib.Core.Path.{◌≡◌, refl, sym, ap, ◌∙◌}
-use native.Mathlib.Omega.{arith}
-use lib.ListN.{length}
-use Prim.Native.Nat.{◌≤◌, ◌<◌}
+use mathlib.Core.Path.{refl, sym, ap, ◌∙◌}
 use Rattle.protection.specs.Bits.{bitwise}
 use Rattle.decktext.specs.Read.{buffers}
 use Rattle.decktext.specs.Walk.{LineRead, given_of}
@@ -19,7 +16,7 @@ pub lines-init : goal.lines-init
 lines-init c = (
   ap (λ t. t.now) c.new-reader.ensures.0,
   rw (c.new-reader.ensures.1, c.requires.1)
-  (start (record { cells = refl; memory = refl; protect = refl; packed = refl }) (c.start-p.ensures (buffers c.args.cells.now c.args.memory.now (bitwise c.args.protect.now))) c.args.staged.now.size),
+      (start (record { cells = refl; memory = refl; protect = refl; packed = refl }) (c.start-p.ensures (buffers c.args.cells.now c.args.memory.now (bitwise c.args.protect.now))) c.args.staged.now.size),
 )
 
 pub returns-then-is_done : goal.returns-then-is_done
@@ -44,5 +41,5 @@ lines-preserved c =
     let l = line (goal.at.lines-preserved c).In-Some in (
       ap (λ t. t.now) c.in-Some.ensures.0 ∙ c.lines.invariant.0,
       on c.lines.invariant.1 l.1 l.2 (given_of c.in-Ok.g) (rw l.4 at (sym (c.in-Ok.ensures _ c.lines.invariant.1.sized))) c.requires.0
-      c.advance-p.result c.advance-p.ensures _ l.3 _ c.stage.ensures.0 _ c.stage.ensures.1,
+          c.advance-p.result c.advance-p.ensures _ l.3 _ c.stage.ensures.0 _ c.stage.ensures.1,
     )
