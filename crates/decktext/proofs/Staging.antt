@@ -1,12 +1,12 @@
 -- The staging array: what it stands for, before any line and with one line more.
-use Prim.Native.Nat.{ℕ, zero, suc, ◌+◌, ◌*◌, ◌≤◌, ◌<◌}
+use Prim.Native.Nat.{ℕ, zero, suc, ◌+◌, ◌-◌, ◌*◌, ◌≤◌, ◌<◌}
 use mathlib.Core.Path.{◌≡◌, refl, sym, ap, ◌∙◌}
 use mathlib.Core.List.{List, ◌∷◌, ◌++◌}
 use native.Mathlib.Numerals.{add-one}
 use native.Mathlib.Omega.{arith}
 use borrow.Author.Count.{below_more}
-use lib.ListN.{length, get_or, set, take, drop, length-set}
-use lib.Seq.{get_or-set_same, get_or-set_other, append_snoc, length-take-le, take-suc, drop-cons, set-append_seam}
+use lib.ListN.{get_or-append, length-append, length-drop, length, get_or, set, take, drop, length-set}
+use lib.Seq.{drop-append_seam, drop-drop, get_or-drop, get_or-take, get_or-set_same, get_or-set_other, append_snoc, length-take-le, take-suc, drop-cons, set-append_seam}
 use Rattle.orders.specs.declared.order.Order.{Order}
 use Rattle.orders.specs.Order.{order_at}
 use Rattle.decktext.specs.Format.{Halfword}
@@ -178,3 +178,34 @@ pub each_next : {W : Type 0} (put : Halfword → W → W) (s : List ℕ) (n k : 
     → put (halfword_at s (place_after n k)) now ≡ with_each put s n (k + 1) w
 unfolding with_each
 each_next put s n k w now e = rw (add-one k, e)
+
+-- ---- the halfwords as chunks of three
+
+-- what is left of the m halfwords after j of them; n orders came before
+abbrev pub chunks_after : List ℕ → ℕ → ℕ → ℕ → List ℕ
+chunks_after s n m j = drop (j * 3) (take (n * 4 + m * 3 - n * 4) (drop (n * 4) s))
+
+module _ (s : List ℕ) (n m k : ℕ) (room : place_after n m ≤ length s) (x rest : List ℕ) (e : chunks_after s n m k ≡ x ++ rest) (three : length x ≡ 3) where
+  more_chunks : k < m
+  more_chunks =
+      let all : length (take (n * 4 + m * 3 - n * 4) (drop (n * 4) s)) ≡ n * 4 + m * 3 - n * 4 = length-take-le _ (drop (n * 4) s) (omega (arith, length-drop (n * 4) s)) in
+      omega (arith, ap length e, length-append x rest, length-drop (k * 3) (take (n * 4 + m * 3 - n * 4) (drop (n * 4) s)))
+
+  -- a value of the chunk is one of the halfword
+  chunk_value : (i : ℕ) → i < 3 → get_or x i 0 ≡ get_or s (place_after n k + i) 0
+  chunk_value i h =
+      let there : n * 4 + (k * 3 + i) ≡ place_after n k + i = omega arith in
+      sym (get_or-append x rest 0 i (omega arith)) ∙ ap (λ (l : List ℕ). get_or l i 0) (sym e)
+      ∙ get_or-drop (k * 3) (take (n * 4 + m * 3 - n * 4) (drop (n * 4) s)) i 0
+      ∙ get_or-take (n * 4 + m * 3 - n * 4) (drop (n * 4) s) (k * 3 + i) 0 (omega (arith, more_chunks))
+      ∙ get_or-drop (n * 4) s (k * 3 + i) 0
+      ∙ ap (λ (a : ℕ). get_or s a 0) there
+
+  pub chunk : (k < m) × (halfword_at x 0 ≡ halfword_at s (place_after n k)) × (rest ≡ chunks_after s n m (k + 1))
+  chunk = (
+    more_chunks,
+    (let a = chunk_value 0 (omega arith) in let b = chunk_value 1 (omega arith) in let c = chunk_value 2 (omega arith) in
+        let first : place_after n k + 0 ≡ place_after n k = omega arith in rw (a, b, c, first)),
+    (let on : k * 3 + 3 ≡ (k + 1) * 3 = omega arith in
+        sym (drop-append_seam x rest) ∙ rw (three, ← e, drop-drop, on)),
+  )
