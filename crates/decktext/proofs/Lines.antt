@@ -3,11 +3,12 @@ use mathlib.Core.Path.{◌≡◌, refl, sym, ap, ◌∙◌}
 use mathlib.Core.Bool.{Bool, true, false, cond}
 use mathlib.Core.List.{List, [], ◌∷◌}
 use Prim.Native.Nat.{ℕ, zero, suc, ◌+◌, ◌-◌, ◌≤◌, ◌<◌, suc-le-suc, zero-le}
-use native.Mathlib.Nat.{zero-lt-suc, zero-add, suc-add, le_of_suc-le-suc, le_refl}
+use native.Mathlib.Nat.{zero-lt-suc, le_of_suc-le-suc, le_refl}
 use native.Mathlib.Omega.{arith}
+use Rattle.std.proofs.lemmas.List.{drop-take}
 use lib.ListN.{length, get_or, take, drop, drop_of_length-le}
 use lib.Dec.{eqb}
-use lib.Seq.{take-nil, drop-nil, take-take, take_all, drop-drop, get_or-take, get_or-drop, slice, length-slice}
+use lib.Seq.{take-take, take_all, drop-drop, get_or-take, get_or-drop, slice, length-slice}
 use Rattle.std.specs.List.{AllWithin, HoldsAt}
 use borrow.Author.Tests.{eq-eqb, ne_eqb}
 use Rattle.decktext.specs.Text.{ended, unended, lines_of, prefixed, values_of}
@@ -43,18 +44,12 @@ unfolding values_of
 values_whole [] w = refl
 values_whole (x ∷ s) w = rw (ne_eqb x 32 (w 0 (zero-lt-suc (length s))), values_whole s (tail x 32 _ s w))
 
--- the front of a rest is a part
-take_of_drop : (n m : ℕ) (l : List ℕ) → take m (drop n l) ≡ drop n (take (n + m) l)
-take_of_drop zero m l = rw zero-add
-take_of_drop (suc n) m [] = take-nil m ∙ sym (drop-nil (suc n)) ∙ ap (λ (x : List ℕ). drop (suc n) x) (sym (take-nil (suc n + m)))
-take_of_drop (suc n) m (x ∷ l) = rw (suc-add n m) (take_of_drop n m l)
-
 -- the bytes from a up to, not including, e
 abbrev pub part : ℕ → ℕ → List ℕ → List ℕ
 part a e t = take (e - a) (drop a t)
 
 part_slice : (a e : ℕ) (t : List ℕ) → a ≤ e → part a e t ≡ slice a e t
-part_slice a e t h = take_of_drop a (e - a) t ∙ (let q : a + (e - a) ≡ e = omega arith in rw q)
+part_slice a e t h = sym (drop-take a (e - a) t) ∙ (let q : a + (e - a) ≡ e = omega arith in rw q)
 
 pub length_part : (a e : ℕ) (t : List ℕ) → a ≤ e → e ≤ length t → length (part a e t) ≡ e - a
 length_part a e t h k = rw (part_slice a e t h) (length-slice a e t k)
@@ -68,7 +63,7 @@ module _ {t : List ℕ} {from end b r : ℕ} (s : Stretch t from end b r) (insid
 
   part-take : take (r - from) (slice from end t) ≡ slice from r t
   part-take =
-      take_of_drop from (r - from) (take end t)
+      sym (drop-take from (r - from) (take end t))
       ∙ (let q : from + (r - from) ≡ r = omega (arith, s.low) in rw (q, take-take r end t s.high))
 
   part-drop : drop (suc (r - from)) (slice from end t) ≡ slice (r + 1) end t

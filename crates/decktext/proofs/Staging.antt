@@ -1,19 +1,18 @@
 -- The staging array: what it stands for, before any line and with one line more.
-use Prim.Native.Nat.{ℕ, zero, suc, ◌+◌, ◌*◌, ◌≤◌, ◌<◌}
+use Prim.Native.Nat.{ℕ, zero, suc, ◌+◌, ◌-◌, ◌*◌, ◌≤◌, ◌<◌}
 use mathlib.Core.Path.{◌≡◌, refl, sym, ap, ◌∙◌}
 use mathlib.Core.List.{List, ◌∷◌, ◌++◌}
 use native.Mathlib.Numerals.{add-one}
 use native.Mathlib.Omega.{arith}
 use borrow.Author.Count.{below_more}
-use lib.ListN.{length, get_or, set, take, drop, length-set}
-use lib.Seq.{get_or-set_same, get_or-set_other, append_snoc, length-take-le, take-suc, drop-cons, set-append_seam}
+use lib.ListN.{get_or-append, length-append, length-drop, length, get_or, set, take, drop, length-set}
+use lib.Seq.{drop-append_seam, drop-drop, get_or-drop, get_or-take, get_or-set_same, get_or-set_other, append_snoc, length-take-le, take-suc, drop-cons, set-append_seam}
 use Rattle.orders.specs.declared.order.Order.{Order}
 use Rattle.orders.specs.Order.{order_at}
-use Rattle.protection.specs.Form.{ProtectList, with_mark}
 use Rattle.decktext.specs.Format.{Halfword}
 use Rattle.decktext.specs.Read.{Buffers, Given, headed, ordered, parted, stored, with_cells, buffered_with}
 use Rattle.decktext.specs.Walk.{Storable}
-use Rattle.decktext.specs.Staged.{place_after, values_in, halfwords_with, with_halfword, staged_with, with_front, halfword_at, with_each, put_word, put_mark, with_words, with_protects, replayed, Landing}
+use Rattle.decktext.specs.Staged.{place_after, values_in, halfwords_with, with_halfword, staged_with, with_front, halfword_at, with_each, put_word, put_mark, replayed, Landing}
 use Rattle.decktext.proofs.Cells.{cell_kept, order-put}
 
 -- r has the values of s below a place
@@ -166,11 +165,6 @@ landing_with (stored h) n k s c m z f room fits l =
 
 -- ---- copied out
 
-pub front_length : (s : List ℕ) (m : ℕ) (c : List ℕ) → length (with_front s m c) ≡ length c
-unfolding with_front
-front_length s zero c = refl
-front_length s (suc m) c = length-set (with_front s m c) m (get_or s m 0) ∙ front_length s m c
-
 -- the front is copied as one slice
 pub front_taken : (s : List ℕ) (m : ℕ) (c : List ℕ) → m ≤ length s → m ≤ length c → take m s ++ drop m c ≡ with_front s m c
 unfolding with_front
@@ -180,25 +174,38 @@ front_taken s (suc m) c h k =
     (let e : length (take m s) ≡ m = length-take-le m s (omega arith) in
     sym (ap (λ (i : ℕ). set (take m s ++ get_or c m 0 ∷ drop (suc m) c) i (get_or s m 0)) (sym e) ∙ set-append_seam (take m s) (get_or c m 0) (drop (suc m) c) (get_or s m 0)))
 
-pub front_next : (s : List ℕ) (m : ℕ) (c now : List ℕ) → now ≡ with_front s m c → set now m (get_or s m 0) ≡ with_front s (m + 1) c
-unfolding with_front
-front_next s m c now e = rw (add-one m, e)
-
 pub each_next : {W : Type 0} (put : Halfword → W → W) (s : List ℕ) (n k : ℕ) (w now : W) → now ≡ with_each put s n k w
     → put (halfword_at s (place_after n k)) now ≡ with_each put s n (k + 1) w
 unfolding with_each
 each_next put s n k w now e = rw (add-one k, e)
 
--- a size that one halfword keeps is kept by all
-each_size : {W : Type 0} (put : Halfword → W → W) (size : W → ℕ) → ((h : Halfword) (w : W) → size (put h w) ≡ size w)
-    → (s : List ℕ) (n k : ℕ) (w : W) → size (with_each put s n k w) ≡ size w
-unfolding with_each
-each_size put size keeps s n zero w = refl
-each_size put size keeps s n (suc k) w = keeps (halfword_at s (place_after n k)) (with_each put s n k w) ∙ each_size put size keeps s n k w
+-- ---- the halfwords as chunks of three
 
-pub words_length : (s : List ℕ) (n k : ℕ) (m : List ℕ) → length (with_words s n k m) ≡ length m
-words_length s n k m = each_size put_word length (λ h w. length-set w h.at h.word) s n k m
+-- what is left of the m halfwords after j of them; n orders came before
+abbrev pub chunks_after : List ℕ → ℕ → ℕ → ℕ → List ℕ
+chunks_after s n m j = drop (j * 3) (take (n * 4 + m * 3 - n * 4) (drop (n * 4) s))
 
-pub marks_length : (s : List ℕ) (n k : ℕ) (p : ProtectList) → length (with_protects s n k p).bytes ≡ length p.bytes
-unfolding with_mark
-marks_length s n k p = each_size put_mark (λ (x : ProtectList). length x.bytes) (λ h w. length-set w.bytes _ _) s n k p
+module _ (s : List ℕ) (n m k : ℕ) (room : place_after n m ≤ length s) (x rest : List ℕ) (e : chunks_after s n m k ≡ x ++ rest) (three : length x ≡ 3) where
+  more_chunks : k < m
+  more_chunks =
+      let all : length (take (n * 4 + m * 3 - n * 4) (drop (n * 4) s)) ≡ n * 4 + m * 3 - n * 4 = length-take-le _ (drop (n * 4) s) (omega (arith, length-drop (n * 4) s)) in
+      omega (arith, ap length e, length-append x rest, length-drop (k * 3) (take (n * 4 + m * 3 - n * 4) (drop (n * 4) s)))
+
+  -- a value of the chunk is one of the halfword
+  chunk_value : (i : ℕ) → i < 3 → get_or x i 0 ≡ get_or s (place_after n k + i) 0
+  chunk_value i h =
+      let there : n * 4 + (k * 3 + i) ≡ place_after n k + i = omega arith in
+      sym (get_or-append x rest 0 i (omega arith)) ∙ ap (λ (l : List ℕ). get_or l i 0) (sym e)
+      ∙ get_or-drop (k * 3) (take (n * 4 + m * 3 - n * 4) (drop (n * 4) s)) i 0
+      ∙ get_or-take (n * 4 + m * 3 - n * 4) (drop (n * 4) s) (k * 3 + i) 0 (omega (arith, more_chunks))
+      ∙ get_or-drop (n * 4) s (k * 3 + i) 0
+      ∙ ap (λ (a : ℕ). get_or s a 0) there
+
+  pub chunk : (k < m) × (halfword_at x 0 ≡ halfword_at s (place_after n k)) × (rest ≡ chunks_after s n m (k + 1))
+  chunk = (
+    more_chunks,
+    (let a = chunk_value 0 (omega arith) in let b = chunk_value 1 (omega arith) in let c = chunk_value 2 (omega arith) in
+        let first : place_after n k + 0 ≡ place_after n k = omega arith in rw (a, b, c, first)),
+    (let on : k * 3 + 3 ≡ (k + 1) * 3 = omega arith in
+        sym (drop-append_seam x rest) ∙ rw (three, ← e, drop-drop, on)),
+  )

@@ -1,5 +1,6 @@
 -- What the functions of the walk say of their results, in the terms of the format.
-use Rattle.std.specs.Prelude.{Option, Some, None, Result, Ok, Err, ℕ, ◌+◌, ◌*◌, ◌≤◌, ◌<◌, ◌≡◌, List, [], Bool, true, false, cond, ◌&&◌, length, get_or, eqb, leb, ltb}
+use Rattle.std.specs.Prelude.{Option, Some, None, Result, Ok, Err, ℕ, ◌+◌, ◌-◌, ◌*◌, ◌≤◌, ◌<◌, ◌≡◌, List, [], Bool, true, false, cond, ◌&&◌, length, get_or, take, drop, eqb, leb, ltb}
+use Rattle.std.specs.Borrow.{Bor}
 use Rattle.hexfloat.specs.Answer.{Answer, gives, stops, provided, and_then}
 use Rattle.orders.specs.declared.order.Order.{Order}
 use Rattle.protection.specs.Bits.{bit_form}
@@ -32,6 +33,11 @@ pub record LineFrom (t : List ℕ) (at : ℕ) (l : LineSpan) : Type 0 where
   pub past : length t < at → l.end ≡ length t
   pub after : l.end < length t → l.next ≡ l.end + 1
   pub last : length t ≤ l.end → l.next ≡ l.end
+
+-- the line from a place within the text, where an LF ends it, and the place after it; or none
+abbrev pub LineRead : List ℕ → ℕ → ℕ → Option (Bor (List ℕ)) → Type 0
+LineRead t at next (Some l) = (e : ℕ) × Stretch t at (length t) 10 e × (e < length t) × (next ≡ e + 1) × (l.now ≡ take (e - at) (drop at t))
+LineRead t at next None = Stretch t at (length t) 10 (length t)
 
 -- the number of some digits in a base, at most 65,535
 abbrev pub digit_in : ℕ → ℕ → Bool
@@ -108,10 +114,10 @@ judged_line order p line v = cond (same line []) (gives parted) (and_then (legal
 judged_line storage p line v = provided (same line storage_heading) 16 (gives headed)
 judged_line halfword p line v = halfword_fits p (halfword_from_values v)
 
--- with its values a line reads as it is judged; where one is malformed, so is the line
-abbrev pub ReadBy : Wanted → List ℕ → Option (List ℕ) → Type 0
-ReadBy w line (Some v) = (p : Progress) → line_as w p line ≡ judged_line w p line v
-ReadBy w line None = (p : Progress) → line_as w p line ≡ stops 16
+-- with its values a line reads as it is judged; a fault of theirs is the line's
+abbrev pub ReadBy : Wanted → List ℕ → Result (List ℕ) Fault → Type 0
+ReadBy w line (Ok v) = (p : Progress) → line_as w p line ≡ judged_line w p line v
+ReadBy w line (Err f) = (p : Progress) → line_as w p line ≡ stops (fault_number f)
 
 -- what the end of the text says
 abbrev pub end_said : Wanted → ℕ → ℕ → Said

@@ -7,7 +7,7 @@ ghost use Rattle.decktext.specs.Walk.{wanted_of, progress_of, says_judged, Sized
 use crate::fault::Fault;
 use crate::given::Given;
 use crate::line::{Progress, Sizes, Wanted, advance, judge, start, value, values_wanted};
-use crate::reader::{LineSpan, next_line};
+use crate::reader::LineReader;
 use crate::refusal::Refusal;
 use crate::span::find;
 use crate::staged::Staged;
@@ -57,8 +57,8 @@ pub fn read(
     Ok(n)
 }
 
-// The order count, or the first fault with its line. What the lines give is staged. An order line has
-// at least 8 bytes and gives four values, a memory line at least 9 and gives three, so there is room.
+// The order count, or the first fault with its line, at which the walk is left. What the lines give is
+// staged. An order line has at least 8 bytes and gives four values, a memory line at least 9 and gives three, so there is room.
 fn walk(
     text: &[u8],
     cells: &[u16],
@@ -75,24 +75,24 @@ fn walk(
         memory: memory.len(),
         protect: protect.len(),
     };
+    let mut reader = LineReader::new(text);
     let mut p = start();
-    let mut at = 0;
     let mut line: u32 = 1;
-    while at < text.len() {
-        let LineSpan { end, next } = next_line(text, at);
-        if end == text.len() {
-            return Err(Refusal::Malformed(line));
+    'lines: loop {
+        if reader.is_done() {
+            break 'lines at_end(line, p);
         }
-        let g = match read_line(p, &text[at..end], sizes, tables) {
+        let Some(bytes) = reader.read() else {
+            break 'lines Err(Refusal::Malformed(line));
+        };
+        let g = match read_line(p, bytes, sizes, tables) {
             Ok(g) => g,
-            Err(fault) => return Err(fault.at(line)),
+            Err(fault) => break 'lines Err(fault.at(line)),
         };
         staged.stage(g, p.count);
         p = advance(p, g);
-        at = next;
         line += 1;
     }
-    at_end(line, p)
 }
 
 // What a line gives, or its fault.
@@ -100,14 +100,12 @@ fn read_line(p: Progress, line: &[u8], sizes: Sizes, tables: &Tables) -> Result<
     requires { (p.count < 65536) × (length line.now ≤ 32768) }
     ensures { (b : Buffers) → Sized b sizes → says_judged result ≡ line_read (progress_of p b) line.now }
 {
-    match values_of(p.wanted, line, tables) {
-        Some(values) => judge(p, line, values, sizes),
-        None => Err(Fault::Malformed),
-    }
+    let values = values_of(p.wanted, line, tables)?;
+    judge(p, line, values, sizes)
 }
 
-// The values of a line, or none where one of them is malformed.
-fn values_of(w: Wanted, line: &[u8], tables: &Tables) -> Option<[u16; 4]>
+// The values of a line; the first that is malformed is the line's fault.
+fn values_of(w: Wanted, line: &[u8], tables: &Tables) -> Result<[u16; 4], Fault>
     requires { length line.now ≤ 32768 }
     ensures { ReadBy (wanted_of w) line.now result }
 {
@@ -116,10 +114,13 @@ fn values_of(w: Wanted, line: &[u8], tables: &Tables) -> Option<[u16; 4]>
     let mut from = 0;
     for i in 0..values_wanted(w, end) {
         let to = find(line, from, end, b' ');
-        values[i] = value(w, i, to == end, &line[from..to], tables)?;
+        let Some(v) = value(w, i, to == end, &line[from..to], tables) else {
+            return Err(Fault::Malformed);
+        };
+        values[i] = v;
         from = to + 1;
     }
-    Some(values)
+    Ok(values)
 }
 
 fn at_end(line: u32, p: Progress) -> Result<u32, Refusal>

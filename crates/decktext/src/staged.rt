@@ -58,11 +58,12 @@ impl Staged {
         requires { Landing self.now.values n self.now.halfwords (length memory.old) }
         ensures { (memory.new ≡ with_words self.now.values n self.now.halfwords memory.old) × (bitwise protect.new ≡ with_protects self.now.values n self.now.halfwords (bitwise protect.old)) }
     {
-        for k in 0..self.halfwords {
-            let i = n as usize * 4 + k * 3;
-            let at = self.values[i] as usize;
-            memory[at] = self.values[i + 2];
-            mark(protect, at, self.values[i + 1] == 1);
+        let start = n as usize * 4;
+        let end = start + self.halfwords * 3;
+        for h in self.values[start..end].chunks_exact(3) {
+            let at = h[0] as usize;
+            memory[at] = h[2];
+            mark(protect, at, h[1] == 1);
         }
     }
 }

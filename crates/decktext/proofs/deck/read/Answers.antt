@@ -3,7 +3,7 @@ use Rattle.std.proofs.lemmas.Result.{err_from_is_err_and}
 use Rattle.protection.specs.Bits.{bitwise}
 use Rattle.decktext.specs.Read.{buffers, read_text}
 use Rattle.decktext.proofs.Laws.{taken_fits}
-use Rattle.decktext.proofs.Readings.{refusal, orders, landing, said_taken, taking}
+use Rattle.decktext.proofs.Readings.{refusal, orders, said_taken, taking}
 use Rattle.decktext.proofs.deck.read.Goals as goal
 
 pub returns-then-text-gt32768 : goal.returns-then-text-gt32768
@@ -18,9 +18,6 @@ returns-in_err-n c =
 pub put_orders-requires : goal.put_orders-requires
 put_orders-requires c = let b = buffers c.args.cells.now c.args.memory.now (bitwise c.args.protect.now) in
     (orders {b = b} c.walk.ensures c.if-text-gt32768.false c.in_ok-n.n c.in_ok-n.was, taken_fits c.args.text.now b c.in_ok-n.n (said_taken {b = b} c.walk.ensures c.if-text-gt32768.false c.in_ok-n.n c.in_ok-n.was))
-
-pub put_halfwords-requires : goal.put_halfwords-requires
-put_halfwords-requires c = landing c.walk.ensures c.if-text-gt32768.false c.in_ok-n.n c.in_ok-n.was
 
 pub returns : goal.returns
 returns c = taking c.walk.ensures c.if-text-gt32768.false c.in_ok-n.n c.in_ok-n.was _ _ _ c.put_orders.ensures c.put_halfwords.ensures.0 c.put_halfwords.ensures.1

@@ -1,50 +1,45 @@
-use Prim.Native.Nat.{ℕ, ◌+◌, ◌<◌}
-use mathlib.Core.Path.{◌≡◌, refl, sym}
-use mathlib.Core.List.{List}
-use native.Mathlib.Omega.{arith}
-use lib.ListN.{length}
+use Rattle.std.specs.Prelude.{Some}
+use borrow.Author.Rules.{rules}
+use mathlib.Core.Path.{refl, sym, ap, ◌∙◌}
 use Rattle.protection.specs.Bits.{bitwise}
-use Rattle.decktext.specs.declared.reader.LineSpan.{LineSpan}
 use Rattle.decktext.specs.Read.{buffers}
-use Rattle.decktext.specs.Walk.{Stretch, LineFrom, given_of}
+use Rattle.decktext.specs.Walk.{LineRead, given_of}
 use Rattle.decktext.proofs.Walking.{start, stageable, on, stopped, unfinished, at_fault, at_end}
 use Rattle.decktext.proofs.deck.walk.Goals as goal
+use Rattle.decktext.proofs.deck.walk.Goals.{In-Some}
 
--- a line that begins within the text
-module _ {t : List ℕ} {at : ℕ} {l : LineSpan} (f : LineFrom t at l) (begins : at < length t) where
-  -- it ends at an LF or at the text's end
-  end_at : Stretch t at (length t) 10 l.end
-  end_at = f.inside (omega arith)
+-- the line that was read, as one of the text
+line : (c : In-Some) → LineRead c.args.text.now c.lines.reader.at c.read.new.self.at (Some c.in-Some.bytes)
+line c = rw c.lines.invariant.0 at c.in-Some.ensures.1
 
-  -- and where that is an LF, within the text
-  ended : (l.end ≡ length t → ⊥) → l.end < length t
-  ended last = omega (arith, end_at.high)
+pub lines-init : goal.lines-init
+lines-init c = (
+  ap (λ t. t.now) c.new-reader.ensures.0,
+  rw (c.new-reader.ensures.1, c.requires.1)
+      (start (record { cells = refl; memory = refl; protect = refl; packed = refl }) (c.start-p.ensures (buffers c.args.cells.now c.args.memory.now (bitwise c.args.protect.now))) c.args.staged.now.size),
+)
 
-  past_end : (l.end ≡ length t → ⊥) → l.next ≡ l.end + 1
-  past_end last = f.after (ended last)
+pub returns-then-is_done : goal.returns-then-is_done
+returns-then-is_done c =
+    at_end c.lines.staged c.lines.invariant.1 c.requires.0 (rw c.lines.invariant.0 at (c.is_done.ensures.0 (search rules))) c.at_end.result c.at_end.ensures
 
-pub loop-at-init : goal.loop-at-init
-loop-at-init c = rw c.requires.1 (start (record { cells = refl; memory = refl; protect = refl; packed = refl }) (c.start-p.ensures (buffers c.args.cells.now c.args.memory.now (bitwise c.args.protect.now))) c.args.staged.now.size)
-
-pub returns-then-end-text : goal.returns-then-end-text
-returns-then-end-text c = at_fault (unfinished c.loop-at.invariant (end_at c.next_line-end.ensures c.loop-at-test.true) c.loop-at-test.true c.if-end-text.true) refl
+pub returns-in_default : goal.returns-in_default
+returns-in_default c = at_fault (unfinished c.lines.invariant.1 (rw c.lines.invariant.0 at c.in_default.ensures.1) (search rules) refl) refl
 
 pub returns-in-Err : goal.returns-in-Err
 returns-in-Err c =
-    at_fault
-    (stopped c.loop-at.invariant (end_at c.next_line-end.ensures c.loop-at-test.true) (ended c.next_line-end.ensures c.loop-at-test.true c.if-end-text.false) _ (sym (c.in-Err.ensures _ c.loop-at.invariant.sized)))
-    c.at.ensures
+    let l = line (goal.at.returns-in-Err c).In-Some in
+    at_fault (stopped c.lines.invariant.1 l.1 l.2 _ (rw l.4 at (sym (c.in-Err.ensures _ c.lines.invariant.1.sized)))) c.at.ensures
 
 pub stage-requires : goal.stage-requires
 stage-requires c =
-    stageable c.loop-at.invariant (end_at c.next_line-end.ensures c.loop-at-test.true) (ended c.next_line-end.ensures c.loop-at-test.true c.if-end-text.false) (given_of c.in-Ok.g)
-    (sym (c.in-Ok.ensures _ c.loop-at.invariant.sized)) c.requires.0
+    let l = line (goal.at.stage-requires c).In-Some in
+    stageable c.lines.invariant.1 l.1 l.2 (given_of c.in-Ok.g) (rw l.4 at (sym (c.in-Ok.ensures _ c.lines.invariant.1.sized))) c.requires.0
 
-pub loop-at-preserved : goal.loop-at-preserved
-loop-at-preserved c =
-    on c.loop-at.invariant (end_at c.next_line-end.ensures c.loop-at-test.true) (ended c.next_line-end.ensures c.loop-at-test.true c.if-end-text.false) (given_of c.in-Ok.g)
-    (sym (c.in-Ok.ensures _ c.loop-at.invariant.sized)) c.requires.0
-    c.advance-p.result c.advance-p.ensures _ (past_end c.next_line-end.ensures c.loop-at-test.true c.if-end-text.false) _ c.stage.ensures.0 _ c.stage.ensures.1
-
-pub returns : goal.returns
-returns c = at_end c.loop-at.staged c.loop-at.invariant c.requires.0 c.loop-at-test.false c.at_end.result c.at_end.ensures
+pub lines-preserved : goal.lines-preserved
+lines-preserved c =
+    let l = line (goal.at.lines-preserved c).In-Some in (
+      ap (λ t. t.now) c.in-Some.ensures.0 ∙ c.lines.invariant.0,
+      on c.lines.invariant.1 l.1 l.2 (given_of c.in-Ok.g) (rw l.4 at (sym (c.in-Ok.ensures _ c.lines.invariant.1.sized))) c.requires.0
+          c.advance-p.result c.advance-p.ensures _ l.3 _ c.stage.ensures.0 _ c.stage.ensures.1,
+    )

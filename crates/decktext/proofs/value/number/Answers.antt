@@ -6,12 +6,9 @@ use Rattle.std.specs.Prelude.{Result, Ok, Err}
 use Rattle.std.specs.Result.{OkIff, result_ok}
 use Rattle.decktext.specs.Value.{says_value}
 use Rattle.decktext.specs.Walk.{number_in}
-use Rattle.decktext.proofs.Digits.{Number, start, fits, on, stop, end, end_large}
+use Rattle.decktext.proofs.Digits.{Number, fits, on, stop, end, end_large}
 use native.Mathlib.Omega.{arith}
 use Rattle.decktext.proofs.value.number.Goals as goal
-
-pub loop-b-init : goal.loop-b-init
-loop-b-init c = start c.args.base c.args.v.now
 
 pub returns-then-base-d : goal.returns-then-base-d
 returns-then-base-d c = stop c.loop-b.invariant c.digit-d.result (omega arith) c.digit-d.ensures c.if-base-d.true
