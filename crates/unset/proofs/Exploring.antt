@@ -17,7 +17,7 @@ use Rattle.unset.specs.declared.path.Point.{Point}
 use Rattle.unset.specs.Bits.{register_of, in_word, bits_of, all, without}
 use Rattle.unset.specs.Path.{start, nexts, OrderAt, Writes, Leads, Path, begins, goes, Along, ReachedUnwritten}
 use Rattle.unset.specs.declared.search.Search.{Search}
-use Rattle.unset.specs.Search.{search_of, word_at, waits, stacked, reached, popped, index_of, point_at, places, trues, Stacked, TakenUp, Explored, top}
+use Rattle.unset.specs.Search.{unexplored, word_at, waits, stacked, reached, popped, index_of, point_at, places, trues, Stacked, TakenUp, Explored, top}
 use Rattle.unset.proofs.Arrivals.{Reached, reached_one, reached-all}
 use Rattle.unset.proofs.Points.{point_back, place_back, next_small, path_small}
 use Rattle.unset.proofs.Registers.{numbered, proper_written}
@@ -189,12 +189,12 @@ unfolding trues
 filled_calm zero = refl
 filled_calm (suc m) = filled_calm m
 
-pub blank : (m : ℕ) → m ≡ places → Blank (search_of (replicate m 0) (replicate m false) [])
-blank m e = record {
-  words = length-replicate m 0 ∙ e;
-  flags = length-replicate m false ∙ e;
-  zeros = λ i. filled_at m i 0;
-  calm = filled_calm m;
+pub blank : Blank unexplored
+blank = record {
+  words = length-replicate {A = ℕ} places 0;
+  flags = length-replicate places false;
+  zeros = λ i. filled_at places i 0;
+  calm = filled_calm places;
   empty = refl;
 }
 

@@ -1,5 +1,5 @@
 -- For the private functions: the search for what reaches each place unwritten.
-use Rattle.std.specs.Prelude.{ℕ, suc, ◌+◌, ◌-◌, ◌*◌, ◌/◌, ◌%◌, ◌^◌, ◌<◌, ◌≡◌, List, [], ◌∷◌, ◌++◌, Bool, true, false, cond, eqb, ltb, length, get_or, set, take}
+use Rattle.std.specs.Prelude.{ℕ, suc, ◌+◌, ◌-◌, ◌*◌, ◌/◌, ◌%◌, ◌^◌, ◌<◌, ◌≡◌, List, [], ◌∷◌, ◌++◌, Bool, true, false, cond, eqb, ltb, length, get_or, set, take, replicate}
 use Rattle.std.specs.Int.Bits.{bit_or}
 use Rattle.hexfloat.specs.Answer.{gives}
 use Rattle.orders.specs.declared.order.Operation.{Operation}
@@ -11,19 +11,23 @@ use Rattle.unset.specs.Answer.{Checked}
 use Rattle.unset.specs.Bits.{bits_of, in_word, register_of, without}
 use Rattle.unset.specs.Path.{point, nexts, ReachedUnwritten}
 
--- places: two for each order of the largest deck, by selector
-abbrev pub places : ℕ
-places = 8192
-
 abbrev pub index_of : Point → ℕ
 index_of x = x.order * 2 + x.selector
 
 abbrev pub point_at : ℕ → Point
 point_at i = point (i / 2) (i % 2)
 
+-- places: two for each order of the largest deck, by selector
+abbrev pub places : ℕ
+places = 8192
+
 -- for each place the registers that were found to reach it unwritten, and whether it waits to be taken up; the places that wait, on a stack
 abbrev pub search_of : List ℕ → List Bool → List ℕ → Search
 search_of u w st = record { unwritten = u; waiting = w; stack = record { items = st } }
+
+-- nothing is found yet, and nothing waits
+abbrev pub unexplored : Search
+unexplored = search_of (replicate places 0) (replicate places false) []
 
 -- how many places the stack has
 abbrev pub top : Search → ℕ

@@ -5,8 +5,9 @@ ghost use Rattle.unset.specs.Answer.{Answers, says_found, says_unset};
 ghost use Rattle.unset.specs.Finding.{SaysLegal, SaysAllLegal, LowestBit, UnsetBits, Searched};
 
 use crate::answer::{Refusal, Unset, register_of};
-use crate::search::explore;
+use crate::search::{PLACES, Search, explore};
 use crate::uses::read;
+use arrayvec::ArrayVec;
 
 // Check 5.
 fn is_legal(deck: &[u16], p: u16) -> bool
@@ -25,7 +26,7 @@ fn all_legal(deck: &[u16]) -> bool
 }
 
 // The registers that order p reads and that reach it unwritten, with either selector.
-fn unset_bits(deck: &[u16], unwritten: &[u32; 8192], p: u32) -> u32
+fn unset_bits(deck: &[u16], unwritten: &[u32; PLACES], p: u32) -> u32
     requires { Searched deck.now unwritten.now × (p < length deck.now / 4) }
     ensures { UnsetBits deck.now unwritten.now p result }
 {
@@ -44,7 +45,7 @@ fn lowest_bit(bits: u32) -> u32
 }
 
 // The lowest order with such a register, and the lowest such register.
-fn lowest(deck: &[u16], unwritten: &[u32; 8192]) -> Option<Unset>
+fn lowest(deck: &[u16], unwritten: &[u32; PLACES]) -> Option<Unset>
     requires { Searched deck.now unwritten.now }
     ensures { Answers deck.now (gives (says_unset result)) }
 {
@@ -70,6 +71,11 @@ pub fn first_unset(deck: &[u16]) -> Result<Option<Unset>, Refusal>
     if !all_legal(deck) {
         return Err(Refusal::IllegalOrder);
     }
-    let unwritten = explore(deck);
-    Ok(lowest(deck, &unwritten))
+    let mut search = Search {
+        unwritten: [0; PLACES],
+        waiting: [false; PLACES],
+        stack: ArrayVec::new(),
+    };
+    explore(deck, &mut search);
+    Ok(lowest(deck, &search.unwritten))
 }

@@ -3,7 +3,7 @@
 ghost use Rattle.std.specs.Prelude.{◌≡◌, ◌≤◌};
 ghost use Rattle.unset.specs.Answer.{Checked};
 ghost use Rattle.unset.specs.Bits.{without};
-ghost use Rattle.unset.specs.Search.{arrived, reached, Arriving, Stacked, Takeable, TakenUp, Explored};
+ghost use Rattle.unset.specs.Search.{arrived, reached, unexplored, Arriving, Stacked, Takeable, TakenUp, Explored};
 
 use crate::path::{Point, index, selector_after};
 use crate::uses::written;
@@ -12,7 +12,7 @@ use arrayvec::ArrayVec;
 // All 24 registers: nothing is written where a path starts.
 const ALL: u32 = 16777215;
 
-const PLACES: usize = 8192;
+pub const PLACES: usize = 8192;
 
 // For each place the registers that reach it unwritten, and whether it waits to be taken up; the places that
 // wait, on a stack.
@@ -90,26 +90,21 @@ fn take_up(deck: &[u16], search: &mut Search, place: usize)
     }
 }
 
-// Which registers reach each place unwritten.
-pub fn explore(deck: &[u16]) -> [u32; PLACES]
-    requires { Checked deck.now }
-    ensures { Explored deck.now result }
+// Which registers reach each place unwritten, by a search that has found nothing yet. It is lent, since handed
+// back by value its arrays would be copied.
+pub fn explore(deck: &[u16], search: &mut Search)
+    requires { Checked deck.now × (search.old ≡ unexplored) }
+    ensures { Explored deck.now search.new.unwritten }
 {
     let orders = (deck.len() / 4) as u32;
-    let mut search = Search {
-        unwritten: [0; PLACES],
-        waiting: [false; PLACES],
-        stack: ArrayVec::new(),
-    };
     let start = Point {
         order: 0,
         selector: 0,
     };
-    reach(&mut search, orders, start, ALL);
+    reach(search, orders, start, ALL);
     while let Some(place) = search.stack.pop() {
         let i = place as usize;
         search.waiting[i] = false;
-        take_up(deck, &mut search, i);
+        take_up(deck, search, i);
     }
-    search.unwritten
 }

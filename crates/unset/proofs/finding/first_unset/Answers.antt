@@ -30,8 +30,8 @@ checked c =
       legal = subst (SaysAllLegal _) (c.if-not-all_legal.false) said.ensures;
     }
 
-pub explore-unwritten-requires : goal.explore-unwritten-requires
-explore-unwritten-requires c = checked (goal.at.explore-unwritten-requires c).Else-not-all_legal
+pub explore-requires : goal.explore-requires
+explore-requires c = (checked (goal.at.explore-requires c).Else-not-all_legal, rw c.new.ensures)
 
 pub lowest-requires : goal.lowest-requires
-lowest-requires c = record { checked = checked (goal.at.lowest-requires c).Else-not-all_legal; explored = c.explore-unwritten.ensures }
+lowest-requires c = record { checked = checked (goal.at.lowest-requires c).Else-not-all_legal; explored = c.explore.ensures }
