@@ -58,7 +58,8 @@ pub fn read(
 }
 
 // The order count, or the first fault with its line, at which the walk is left. What the lines give is
-// staged. An order line has at least 8 bytes and gives four values, a memory line at least 9 and gives three, so there is room.
+// staged. An order line has at least 8 bytes and gives four values, a memory line at least 9 and gives
+// three, so there is room.
 fn walk(
     text: &[u8],
     cells: &[u16],

@@ -1,5 +1,4 @@
 use native.Mathlib.Omega.{arith}
-use Rattle.listing.proofs.Appends.{then}
 use Rattle.listing.proofs.Words.{word-length}
 use Rattle.listing.proofs.listing.push_register.Goals as goal
 
@@ -11,6 +10,3 @@ push_word-requires-2 c = omega (arith, c.push_word.ensures.size, word-length 8 c
 
 pub push-requires-4 : goal.push-requires-4
 push-requires-4 c = omega (arith, c.push_word.ensures.size, c.push_word-2.ensures.size, word-length 8 c.args.float, word-length 8 c.args.general)
-
-pub returns : goal.returns
-returns c = then c.push.ensures (then c.push-2.ensures (then c.push_word.ensures (then c.push-3.ensures (then c.push_word-2.ensures c.push-4.ensures))))

@@ -1,4 +1,3 @@
-use mathlib.Core.Path.{◌≡◌}
 use native.Mathlib.Numerals.{add-one}
 use native.Mathlib.Omega.{arith}
 use Rattle.listing.specs.Listing.{register_lines}
@@ -18,8 +17,3 @@ push_register-requires c =
 pub loop-i-preserved : goal.loop-i-preserved
 unfolding register_lines
 loop-i-preserved c = rw add-one (then c.loop-i.invariant (rw c.general_at-general.ensures at c.push_register.ensures))
-
-pub returns : goal.returns
-returns c =
-    let e : c.loop-i.i ≡ 8 = omega arith in
-    rw e at c.loop-i.invariant

@@ -1,5 +1,3 @@
-use mathlib.Core.Path.{◌≡◌}
-use native.Mathlib.Nat.{div-one}
 use Prim.Native.Nat.{◌-◌, ◌/◌, ◌^◌}
 use native.Mathlib.Omega.{arith}
 use Rattle.listing.specs.Digits.{hexadecimal}
@@ -16,8 +14,3 @@ push-requires g c = omega (arith, c.loop-i.invariant.size, word-length c.loop-i.
 
 pub loop-i-preserved : goal.loop-i-preserved
 loop-i-preserved g c = rw (next_digit c.args.w c.loop-i.i c.loop-i-test.true) (then c.loop-i.invariant (rw c.hex_digit.ensures at c.push.ensures))
-
-pub returns : goal.returns
-returns g c =
-    let e : c.loop-i.i ≡ 8 = omega arith in
-    rw div-one at (rw e at c.loop-i.invariant)
