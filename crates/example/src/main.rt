@@ -37,6 +37,7 @@ fn step_and_return(
 {
     let there = machine::step(s, seat, deck, memory, protect, journal);
     let step = there.stop;
+    // Kept: the stop by its number, of which `Returned` speaks.
     if machine::number(step) != 0 {
         return Return {
             state: there.state,

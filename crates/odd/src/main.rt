@@ -24,13 +24,16 @@ fn lend<T>(room: &mut [T], length: usize) -> Result<&mut [T], Ended> {
 fn one_case(rt: HostRuntime) -> Result<(), Ended> {
     let head: [u8; 26] = trial::first_line(rt)?;
     let [d, m, p, j, k] = trial::numbers(10, &head, [5, 5, 5, 5, 2])?;
-    let (mut cells, mut halfwords) = ([0u16; 40000], [0u16; 40000]);
-    let (mut bits, mut words, mut bytes) = ([0u8; 40000], [0u32; 40000], [0u8; 200]);
-    let deck = lend(&mut cells, d as usize)?;
-    let memory = lend(&mut halfwords, m as usize)?;
-    let protect = lend(&mut bits, p as usize)?;
-    let journal = lend(&mut words, j as usize)?;
-    let calls = lend(&mut bytes, k as usize * 2)?;
+    let mut deck = [0u16; 40000];
+    let mut memory = [0u16; 40000];
+    let mut protect = [0u8; 40000];
+    let mut journal = [0u32; 40000];
+    let mut calls = [0u8; 200];
+    let deck = lend(&mut deck, d as usize)?;
+    let memory = lend(&mut memory, m as usize)?;
+    let protect = lend(&mut protect, p as usize)?;
+    let journal = lend(&mut journal, j as usize)?;
+    let calls = lend(&mut calls, k as usize * 2)?;
     let start = read_start(rt)?;
     read_first(rt, deck, 4)?;
     read_first(rt, memory, 4)?;

@@ -52,6 +52,7 @@ pub fn call(
     let k = value_of(seat);
     match byte {
         b's' => {
+            // Kept: the stop by its number, which is what `called` of the clause counts by.
             let r = machine::step(s, k, deck, memory, protect, journal);
             forward(r.state, u32::from(machine::number(r.stop) == 0), r.stop)
         }
