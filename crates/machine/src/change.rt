@@ -62,12 +62,9 @@ pub fn is_placed(ch: Change, memory: usize) -> bool
     ensures { result ≡ placed ch memory }
 {
     match ch {
-        Change::Nothing => true,
-        Change::Float(r, w) => true,
-        Change::Pair(r, hi, lo) => true,
-        Change::General(r, w) => true,
-        Change::Two(at, w) => at as usize + 2 <= memory,
-        Change::Four(at, hi, lo) => at as usize + 4 <= memory,
+        Change::Nothing | Change::Float(..) | Change::Pair(..) | Change::General(..) => true,
+        Change::Two(at, _) => at as usize + 2 <= memory,
+        Change::Four(at, _, _) => at as usize + 4 <= memory,
     }
 }
 
@@ -77,16 +74,14 @@ pub fn is_guarded(protect: &[u8], ch: Change) -> bool
     ensures { result ≡ guarded (bitwise protect.now) ch }
 {
     match ch {
-        Change::Nothing => false,
-        Change::Float(r, w) => false,
-        Change::Pair(r, hi, lo) => false,
-        Change::General(r, w) => false,
-        Change::Two(at, w) => crate::check::any_protected(protect, at, 2),
-        Change::Four(at, hi, lo) => crate::check::any_protected(protect, at, 4),
+        Change::Nothing | Change::Float(..) | Change::Pair(..) | Change::General(..) => false,
+        Change::Two(at, _) => crate::check::any_protected(protect, at, 2),
+        Change::Four(at, _, _) => crate::check::any_protected(protect, at, 4),
     }
 }
 
 // The same places with their present contents.
+#[tactic(auto, unfolding(crate::specs::Change::old_of))]
 pub fn old(
     float: &[u32; 8],
     general: &[u32; 16],
@@ -113,12 +108,13 @@ pub fn old(
 }
 
 // A change of registers, in place; a general register is of the set that the selector names.
+#[tactic(auto, unfolding(crate::specs::Change::float_after, crate::specs::Change::general_after))]
 pub fn put(ch: Change, float: &mut [u32; 8], general: &mut [u32; 16], selector: u32)
     requires { (registered ch ≡ true) × (selector ≤ 1) }
     ensures { (float.new ≡ float_after ch float.old) × (general.new ≡ general_after ch general.old selector) }
 {
     match ch {
-        Change::Nothing => {}
+        Change::Nothing | Change::Two(..) | Change::Four(..) => {}
         Change::Float(r, w) => {
             float[r as usize] = w;
         }
@@ -129,8 +125,6 @@ pub fn put(ch: Change, float: &mut [u32; 8], general: &mut [u32; 16], selector: 
         Change::General(r, w) => {
             general[general_cell(selector, r)] = w;
         }
-        Change::Two(at, w) => {}
-        Change::Four(at, hi, lo) => {}
     }
 }
 
@@ -158,15 +152,13 @@ fn put_word(memory: &mut [u16], at: usize, w: u32)
     memory[at + 1] = (w % 65536) as u16;
 }
 
+#[tactic(auto, unfolding(crate::specs::Change::memory_after))]
 pub fn store(ch: Change, memory: &mut [u16])
     requires { placed ch (length memory.old) ≡ true }
     ensures { memory.new ≡ memory_after ch memory.old }
 {
     match ch {
-        Change::Nothing => {}
-        Change::Float(r, w) => {}
-        Change::Pair(r, hi, lo) => {}
-        Change::General(r, w) => {}
+        Change::Nothing | Change::Float(..) | Change::Pair(..) | Change::General(..) => {}
         Change::Two(at, w) => put_word(memory, at as usize, w),
         Change::Four(at, hi, lo) => {
             let i = at as usize;

@@ -27,18 +27,12 @@ pub fn float_pair(float: &[u32; 8], r: u32) -> Words
     }
 }
 
-fn wide(x: u16) -> u32
-    ensures { result ≡ x }
-{
-    x as u32
-}
-
 // Two halfwords, the left one high.
 pub fn word_at(memory: &[u16], at: usize) -> u32
     requires { at + 2 ≤ length memory.now }
     ensures { result ≡ word_at memory.now at }
 {
-    wide(memory[at]) * 65536 + wide(memory[at + 1])
+    u32::from(memory[at]) * 65536 + u32::from(memory[at + 1])
 }
 
 pub fn long_at(memory: &[u16], at: usize) -> Words
