@@ -4,6 +4,7 @@ ghost use Rattle.protection.specs.Bits.{bitwise};
 ghost use Rattle.machine.specs.Decide.{accessed, judged_at};
 ghost use Rattle.machine.specs.Machine.{machine};
 ghost use Rattle.machine.specs.Operand.{address_in};
+ghost use Rattle.machine.specs.Stops.{number_of};
 ghost use Rattle.cause.specs.Attempt.{Accessible};
 ghost use Rattle.cause.specs.Arithmetic.{stop_in};
 ghost use Rattle.cause.specs.declared.naming.Named.{Named};
@@ -14,15 +15,32 @@ use crate::cell::first_broken;
 use crate::naming::{Cause, NO_CAUSE, Named};
 use crate::storage::{lowest_absent, lowest_protected};
 use crate::words::words_read;
-use machine::{Registers, State};
+use machine::{Registers, State, Stop};
 use orders::{LegalOrder, Order, address, halts, legal, order_at, span, stored};
 
-// A number that names nothing.
-fn alone(number: u8) -> Cause
-    ensures { result ≡ cause number Named.Nothing }
+// A stop of the next step, and what brought it about.
+fn stopped(stop: Stop, named: Named) -> Cause
+    ensures { result ≡ cause (number_of stop) named }
 {
     Cause {
-        number,
+        number: machine::number(stop),
+        named,
+    }
+}
+
+// A stop that names nothing.
+fn alone(stop: Stop) -> Cause
+    ensures { result ≡ cause (number_of stop) Named.Nothing }
+{
+    stopped(stop, Named::Nothing)
+}
+
+// No stop, or HALT, or a journal that is full.
+fn no_cause() -> Cause
+    ensures { result ≡ cause 18 Named.Nothing }
+{
+    Cause {
+        number: NO_CAUSE,
         named: Named::Nothing,
     }
 }
@@ -40,25 +58,19 @@ fn access(l: LegalOrder, registers: Registers, memory: &[u16], protect: &[u8]) -
     let selector = status.selector as u32;
     let at = address(o, &general, selector);
     let Ok(q) = machine::fetch(o, &float, &general, selector, memory) else {
-        return Cause {
-            number: 6,
-            named: Named::Address(lowest_absent(at, span(op), memory.len())),
-        };
+        let absent = lowest_absent(at, span(op), memory.len());
+        return stopped(Stop::AbsentStorage, Named::Address(absent));
     };
     let n = stored(op);
     let a = lowest_protected(protect, at, n);
     if a < at + n {
-        return Cause {
-            number: 7,
-            named: Named::Address(a),
-        };
+        return stopped(Stop::ProtectedStorage, Named::Address(a));
     }
-    let number = machine::number(attempt(o, q.second, float, status.mask));
-    if number == 0 {
-        return alone(NO_CAUSE); // taken
+    let stop = attempt(o, q.second, float, status.mask);
+    if machine::number(stop) == 0 {
+        return no_cause(); // taken
     }
-    let named = words_read(q);
-    Cause { number, named }
+    stopped(stop, words_read(q))
 }
 
 // Checks 5, 12 and 13, and the others.
@@ -74,16 +86,13 @@ fn examine(
     ensures { result ≡ explained (stop_in (judged_at o registers used (bitwise protect.now) memory.now journal)) o registers memory.now (address_in o registers) (bitwise protect.now) }
 {
     let Some(l) = legal(o) else {
-        return Cause {
-            number: 5,
-            named: Named::Cell(first_broken(o)),
-        };
+        return stopped(Stop::IllegalOrder, Named::Cell(first_broken(o)));
     };
     if halts(l.operation.verb) {
-        return alone(NO_CAUSE); // a step's 12
+        return no_cause(); // a step's 12
     }
     if used as usize >= journal / 4 {
-        return alone(NO_CAUSE); // a step's 13
+        return no_cause(); // a step's 13
     }
     access(l, registers, memory, protect)
 }
@@ -111,10 +120,10 @@ pub fn why(
         memory.len(),
         journal.len(),
     ) {
-        return alone(machine::number(stop));
+        return alone(stop);
     }
     if status.pointer as usize >= deck.len() / 4 {
-        return alone(4);
+        return alone(Stop::PointerPast);
     }
     let o = order_at(deck, status.pointer);
     examine(o, registers, s.used, memory, protect, journal.len())

@@ -25,42 +25,57 @@ fn length_of(line: &[u8; 6]) -> Option<usize>
     Some(n)
 }
 
-// Runs the text of n bytes that follows, and says whether to go on.
-fn one_text(rt: HostRuntime, n: usize, space: &mut [u8]) -> bool
+// Why no text follows.
+#[derive(Clone, Copy, PartialEq, Eq)]
+enum Ended {
+    // the input has no more, or a line is not written
+    Quietly,
+    Length,
+    Text,
+}
+
+// Runs the text of n bytes that follows.
+fn one_text(rt: HostRuntime, n: usize, space: &mut [u8]) -> Result<(), Ended>
     requires { n ≤ length space.old }
 {
     let text = &mut space[..n];
     let got = read_all(&mut rt.stdin(), text).count;
     if got < n {
-        let _ = rt.stderr().write_all(b"decks: a text is too short\n");
-        return false;
+        return Err(Ended::Text);
     }
     let out = listing::answer(text);
-    rt.stdout().write_all(out.as_bytes()).is_ok()
+    rt.stdout()
+        .write_all(out.as_bytes())
+        .map_err(|_| Ended::Quietly)
 }
 
-// One case, and whether to go on. A read that fails is the input's end.
-fn one_case(rt: HostRuntime) -> bool {
+// A read that fails is the input's end.
+fn one_case(rt: HostRuntime) -> Result<(), Ended> {
     let mut line = [0u8; 6];
     let got = read_all(&mut rt.stdin(), &mut line).count;
     if got == 0 {
-        return false;
+        return Err(Ended::Quietly);
     }
-    let Some(n) = length_of(&line) else {
-        let _ = rt
-            .stderr()
-            .write_all(b"decks: a length is not of the form\n");
-        return false;
-    };
+    let n = length_of(&line).ok_or(Ended::Length)?;
     let mut space = [0u8; 100000];
     one_text(rt, n, &mut space)
+}
+
+fn complain(rt: HostRuntime, why: Ended) {
+    let what: &[u8] = match why {
+        Ended::Quietly => return,
+        Ended::Length => b"decks: a length is not of the form\n",
+        Ended::Text => b"decks: a text is too short\n",
+    };
+    let _ = rt.stderr().write_all(what);
 }
 
 // A proved loop has to end: the turns are more than any run uses up.
 fn main(rt: HostRuntime) {
     for _ in 0..u64::MAX {
-        if !one_case(rt) {
-            break;
+        if let Err(why) = one_case(rt) {
+            complain(rt, why);
+            return;
         }
     }
 }

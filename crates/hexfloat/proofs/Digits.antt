@@ -2,7 +2,7 @@
 use mathlib.Core.Path.{◌≡◌, refl, sym, ap, ◌∙◌}
 use mathlib.Core.Logic.{⊎_elim}
 use Prim.Native.Nat.{ℕ, zero, suc, ◌+◌, ◌*◌, ◌/◌, ◌%◌, ◌^◌, ◌≤◌, ◌<◌, zero-le}
-use native.Mathlib.Nat.{mod-eq_of_lt, mul_right_comm, le_refl, le_trans, le_of_eq, lt_of_lt_of_le, lt_of_le_of_lt, le_of_lt, le_antisymm, le_of_suc-le-suc, lt_of_not-le, not-le_of_lt, zero-lt-suc, one-le-pow, pow-suc, pow-le-pow_right, mul-le-mul_right, mul-lt-mul_of_pos_left, mul-lt-mul_of_pos_right, lt_of_mul-lt-mul_right, div-mul-le_self, div-lt_iff_lt-mul, eq-zero-or-pos}
+use native.Mathlib.Nat.{mod-eq_of_lt, le_refl, le_trans, le_of_eq, lt_of_lt_of_le, lt_of_le_of_lt, le_of_lt, le_antisymm, le_of_suc-le-suc, lt_of_not-le, not-le_of_lt, zero-lt-suc, one-le-pow, pow-suc, pow-le-pow_right, mul-le-mul_right, mul-lt-mul_of_pos_left, mul-lt-mul_of_pos_right, lt_of_mul-lt-mul_right, div-mul-le_self, div-lt_iff_lt-mul, eq-zero-or-pos}
 use native.Mathlib.Omega.{arith}
 use lib.Pow.{pow-add, pow_mono}
 use lib.Count.{count_leading_zeros, leading_top, leading_of_zero}
@@ -79,13 +79,6 @@ digits_unique n k h l =
 
 pub digits_le : (n k : ℕ) → n < 16 ^ k → digits n ≤ k
 digits_le n k h = ⊎_elim (λ e. le_trans (le_of_eq (ap digits e ∙ digits-zero)) zero-le) (λ p. reach n (digits n) k h ((digits_are n).least p)) (eq-zero-or-pos n)
-
--- digits moved left
-pub digits_shift : (n k : ℕ) → 0 < n → digits (n * 16 ^ k) ≡ digits n + k
-digits_shift n k p =
-    digits_unique (n * 16 ^ k) (digits n + k)
-    (rw pow-add (mul-lt-mul_of_pos_right (digits_are n).most (pos k)))
-    (rw pow-add (le_trans (mul-le-mul_right (16 ^ k) ((digits_are n).least p)) (le_of_eq (mul_right_comm n 16 (16 ^ k)))))
 
 -- leading zero bits over four are leading zero digits, in a word of k digits
 pub leading_digits : (k a : ℕ) → a < 2 ^ (4 * k) → count_leading_zeros (4 * k) a / 4 + digits a ≡ k

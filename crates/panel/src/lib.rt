@@ -27,7 +27,7 @@ ghost use Rattle.panel.specs.Unset.{Tells};
 use finding::{Finding, told};
 use interval::{Interval, stretch_by_value};
 use machine::State;
-use value::{Answer, Explanation, Piece, back_by_value, run_by_value, step_by_value, why_by_value};
+use value::{Answer, Explanation, Piece, back_by_value, run_by_value, why_by_value};
 
 // The state of a machine that was just switched on.
 #[unsafe(no_mangle)]
@@ -60,14 +60,14 @@ pub extern "C" fn panel_step(
         own = state.seat1;
         other = state.seat0.status;
     }
-    let stepped = step_by_value(own, other, seat, state.used, deck, memory, protect, journal);
+    let stepped = machine::step_seat(own, other, seat, state.used, deck, memory, protect, journal);
     if seat == 0 {
         state.seat0 = stepped.registers;
     } else {
         state.seat1 = stepped.registers;
     }
     state.used = stepped.used;
-    stepped.number
+    machine::number(stepped.stop)
 }
 
 // Steps of a seat to the limit or to a stop; the number is 0 or the stop's, the value the steps taken.

@@ -2,8 +2,7 @@
 ghost use Rattle.std.specs.Prelude.{◌≡◌};
 ghost use Rattle.protection.specs.Bits.{bitwise};
 ghost use Rattle.machine.specs.Machine.{machine};
-ghost use Rattle.machine.specs.Seats.{seated, Beside};
-ghost use Rattle.machine.specs.Step.{single, stepped, outcome};
+ghost use Rattle.machine.specs.Step.{outcome};
 ghost use Rattle.machine.specs.Run.{ran};
 ghost use Rattle.machine.specs.Back.{backed};
 ghost use Rattle.cause.specs.Cause.{why_of};
@@ -11,15 +10,7 @@ ghost use Rattle.panel.specs.Back.{seat_said, TakenBack};
 ghost use Rattle.panel.specs.Explain.{explanation_of};
 
 use cause::{Cause, Named};
-use machine::{Registers, State, Status};
-
-// What a step leaves of its seat, and the number of how it ended.
-#[derive(Clone, Copy)]
-pub struct Stepped {
-    pub registers: Registers,
-    pub used: u32,
-    pub number: u8,
-}
+use machine::State;
 
 // Kept as numbers, here and in the other structs that C receives.
 //
@@ -36,30 +27,6 @@ pub struct Answer {
 pub struct Answered {
     pub state: State,
     pub answer: Answer,
-}
-
-// Of one seat, so that a caller who lends a state copies no more of it than steps, and of the other seat the status.
-pub fn step_by_value(
-    own: Registers,
-    other: Status,
-    seat: u32,
-    used: u32,
-    deck: &[u16],
-    memory: &mut [u16],
-    protect: &[u8],
-    journal: &mut [u32],
-) -> Stepped
-    ensures { Beside other (λ o. single (machine (seated seat result.registers o result.used) memory.new journal.new) result.number
-        ≡ stepped deck.now (bitwise protect.now) seat (machine (seated seat own o used) memory.old journal.old)) }
-{
-    let r = machine::step_seat(own, other, seat, used, deck, memory, protect, journal);
-    let registers = r.registers;
-    let stop = r.stop;
-    Stepped {
-        registers,
-        used: r.used,
-        number: machine::number(stop),
-    }
 }
 
 pub fn run_by_value(

@@ -51,10 +51,6 @@ none_waits n s st e i = cases (waits s i) refl
     cases true h = absurd (omega (arith, one_less s.waiting i h, st.count))
     cases false h = refl
 
--- no more wait than there are places
-pub top_at_most : (n : ℕ) (s : Search) → Stacked n s → top s ≤ places
-top_at_most n s st = omega (arith, at_most s.waiting, st.count, st.flags)
-
 -- where some place does not wait, the stack has room
 pub room : (n i : ℕ) (s : Search) → Stacked n s → i < places → waits s i ≡ false → top s < places
 room n i s st h e =

@@ -9,16 +9,16 @@ use Rattle.panel.proofs.panel_step.Goals.{then-seat-eq0, else-seat-eq0, then-sea
 pub returns : goal.returns
 returns c =
     let s : State = c.args.state.now in
-    let told = c.step_by_value-stepped.ensures in
+    let told = c.step_seat-stepped.ensures in
     elim c.if-seat-eq0.branch [
       | then-seat-eq0 w ↦
           elim c.if-seat-eq0-2.branch [
-            | then-seat-eq0-2 v ↦ rw v.state-is (rw (w.own-is, eq-eqb _ _ w.if-seat-eq0.true) at (told s.seat1 (sym w.other-is)))
+            | then-seat-eq0-2 v ↦ rw (v.state-is, c.number.ensures) (rw (w.own-is, eq-eqb _ _ w.if-seat-eq0.true) at (told s.seat1 (sym w.other-is)))
             | else-seat-eq0-2 v ↦ absurd (v.if-seat-eq0-2.false w.if-seat-eq0.true)
           ]
       | else-seat-eq0 w ↦
           elim c.if-seat-eq0-2.branch [
             | then-seat-eq0-2 v ↦ absurd (w.if-seat-eq0.false v.if-seat-eq0-2.true)
-            | else-seat-eq0-2 v ↦ rw v.state-is (rw (w.own-is, ne_eqb _ _ w.if-seat-eq0.false) at (told s.seat0 (sym w.other-is)))
+            | else-seat-eq0-2 v ↦ rw (v.state-is, c.number.ensures) (rw (w.own-is, ne_eqb _ _ w.if-seat-eq0.false) at (told s.seat0 (sym w.other-is)))
           ]
     ]

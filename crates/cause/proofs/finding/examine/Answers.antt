@@ -10,18 +10,18 @@ use Rattle.cause.proofs.finding.examine.Goals as goal
 
 pub returns-in_default : goal.returns-in_default
 unfolding cause_number named_for
-returns-in_default c = rw (c.first_broken.ensures, ← c.legal.ensures.said, c.in_default.is)
+returns-in_default c = rw (c.stopped.ensures, c.first_broken.ensures, ← c.legal.ensures.said, c.in_default.is)
 
 pub returns-then-halts : goal.returns-then-halts
 unfolding judged cause_number named_for
-returns-then-halts c = rw (c.alone.ensures, ← c.legal.ensures.said, c.in-Some.is, ← c.halts.ensures, c.if-halts.true)
+returns-then-halts c = rw (c.no_cause.ensures, ← c.legal.ensures.said, c.in-Some.is, ← c.halts.ensures, c.if-halts.true)
 
 pub returns-then-used-journal : goal.returns-then-used-journal
 unfolding judged cause_number named_for
 returns-then-used-journal c =
     let a = c.args in
     let full = le-ltb a.used (a.journal / 4) (omega (arith, c.if-used-journal.true)) in
-    rw (c.alone-then-used-journal.ensures, ← c.legal.ensures.said, c.in-Some.is, ← c.halts.ensures, c.if-halts.false, full)
+    rw (c.no_cause-then-used-journal.ensures, ← c.legal.ensures.said, c.in-Some.is, ← c.halts.ensures, c.if-halts.false, full)
 
 pub access-requires : goal.access-requires
 access-requires c = record { goes = sym c.halts.ensures ∙ c.if-halts.false; mask = c.requires }

@@ -13,7 +13,7 @@ pub returns-in-Err : goal.returns-in-Err
 returns-in-Err c =
     let f = failed _ c.admit.ensures c.in-Err.is in
     why_as _ _ _ _ _ _ _ _ c.registers_of-registers.ensures
-    (rw (c.alone.ensures, c.number.ensures, f.1, f.0) (sym (explain_early _ _ _ _ _ _ _ _ _ _ _ _ (eqb-false _ 0 f.0))))
+    (rw (c.alone.ensures, f.1, f.0) (sym (explain_early _ _ _ _ _ _ _ _ _ _ _ _ (eqb-false _ 0 f.0))))
 
 pub returns-then-status-deck : goal.returns-then-status-deck
 unfolding cause_number named_for
