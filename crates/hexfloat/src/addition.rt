@@ -26,8 +26,8 @@ pub enum Sense {
 pub fn sum(sense: Sense, width: Width, mask: bool, a: Words, b: Words) -> Result<Words, Fault>
     ensures { says_result result ≡ summed_words sense width mask a b }
 {
-    let x = crate::word::parts_of(width, a);
-    let y = crate::word::parts_of(width, b);
+    let x = a.parts(width);
+    let y = b.parts(width);
     add_parts(width, mask, x, addend(sense, y))
 }
 
@@ -87,6 +87,6 @@ fn normalise_sum(width: Width, mask: bool, c: u32, s: Signed) -> Result<Words, F
     if m == 0 {
         return Ok(Words { high: 0, low: 0 });
     }
-    let d = crate::word::digits_of(width);
+    let d = width.digits();
     crate::result::normalised_result(width, mask, sign, c, d + GUARD_DIGITS, m)
 }

@@ -12,8 +12,8 @@ const GUARD_DIGITS: u32 = 2;
 pub fn compare(width: Width, a: Words, b: Words) -> u8
     ensures { result ≡ compared_words width a b }
 {
-    let x = crate::word::parts_of(width, a);
-    let y = crate::word::parts_of(width, b);
+    let x = a.parts(width);
+    let y = b.parts(width);
     match width {
         Width::Short => compare_exact(6, x, y),
         Width::Long => compare_aligned(x, y),

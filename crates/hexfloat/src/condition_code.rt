@@ -8,7 +8,7 @@ use crate::word::{Parts, Width, Words};
 pub fn condition(width: Width, a: Words) -> u8
     ensures { result ≡ operand_condition width a }
 {
-    condition_of(crate::word::parts_of(width, a))
+    condition_of(a.parts(width))
 }
 
 pub fn condition_of(p: Parts) -> u8

@@ -9,7 +9,7 @@ use crate::word::{Coded, Parts};
 pub fn to_fixed(w: u32) -> Option<Coded>
     ensures { says_fixed result ≡ to_fixed w }
 {
-    let p = crate::word::short_parts(w);
+    let p = Parts::short(w);
     if p.fraction == 0 {
         return Some(Coded {
             word: 0,
@@ -59,7 +59,7 @@ pub fn to_float(w: u32) -> Coded
 {
     let p = float_parts(w);
     Coded {
-        word: crate::word::short_word(p),
+        word: p.short_word(),
         condition: crate::condition_code::condition_of(p),
     }
 }

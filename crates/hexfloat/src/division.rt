@@ -14,15 +14,15 @@ use crate::word::{Width, Words};
 pub fn divide(width: Width, mask: bool, a: Words, b: Words) -> Result<Words, Fault>
     ensures { says_result result ≡ quotient_words width mask a b }
 {
-    let x = crate::word::parts_of(width, a);
-    let y = crate::word::parts_of(width, b);
+    let x = a.parts(width);
+    let y = b.parts(width);
     if y.fraction == 0 {
         return Err(Fault::ZeroDivisor);
     }
     if x.fraction == 0 {
         return Ok(Words { high: 0, low: 0 });
     }
-    let d = crate::word::digits_of(width);
+    let d = width.digits();
     // y first: x may just have been written by the order before
     let m = crate::normal::normalise(d, y);
     let n = crate::normal::normalise(d, x);

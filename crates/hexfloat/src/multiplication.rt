@@ -30,8 +30,8 @@ pub fn multiply(
 ) -> Result<Words, Fault>
     ensures { says_result result ≡ product_words operands width mask a b }
 {
-    let x = crate::word::parts_of(operands, a);
-    let y = crate::word::parts_of(operands, b);
+    let x = a.parts(operands);
+    let y = b.parts(operands);
     if x.fraction == 0 {
         return Ok(Words { high: 0, low: 0 });
     }

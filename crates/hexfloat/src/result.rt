@@ -48,7 +48,7 @@ pub fn limited(
         characteristic,
         fraction,
     };
-    Ok(crate::word::words_of(width, p))
+    Ok(p.words(width))
 }
 
 // The same of a ratio whose first digits are those of m, at most 16 of them, the last one at the
@@ -66,7 +66,7 @@ pub fn normalised_result(
     requires up_bound { up < 2 ^ 16 }
     ensures { (a b : ℕ) → 0 < b → IsPlaced (digits_of width) a b (up + digits m) down (first_digits (digits_of width) m) → says_result result ≡ mapped (words_of width) (result_of (digits_of width) mask sign a b) }
 {
-    let d = crate::word::digits_of(width);
+    let d = width.digits();
     let zeros = m.leading_zeros() / 4;
     let fraction = (m << (4 * zeros)) >> (4 * (16 - d));
     limited(width, mask, sign, up + 16 - zeros, down, fraction)

@@ -26,7 +26,8 @@ pub struct Coded {
 }
 
 // A number taken apart.
-// Kept without a fact of its own: how many digits a fraction has goes by the width, a value that no type knows.
+// Kept without a fact of its own: how many digits a fraction has is said of each use (`Operand`), since a type for
+// each width would have the functions over both stand twice.
 #[derive(Clone, Copy)]
 pub struct Parts {
     pub sign: u32,
@@ -34,73 +35,79 @@ pub struct Parts {
     pub fraction: u64,
 }
 
-pub fn digits_of(width: Width) -> u32
-    ensures { result ≡ digits_of width }
-{
-    match width {
-        Width::Short => 6,
-        Width::Long => 14,
+impl Width {
+    pub(crate) fn digits(self) -> u32
+        ensures { result ≡ digits_of self }
+    {
+        match self {
+            Width::Short => 6,
+            Width::Long => 14,
+        }
     }
 }
 
-pub fn parts_of(width: Width, a: Words) -> Parts
-    ensures { result ≡ parts_of width a }
-{
-    match width {
-        Width::Short => short_parts(a.high),
-        Width::Long => long_parts(a),
+impl Words {
+    pub(crate) fn parts(self, width: Width) -> Parts
+        ensures { result ≡ parts_of width self }
+    {
+        match width {
+            Width::Short => Parts::short(self.high),
+            Width::Long => Parts::long(self),
+        }
     }
 }
 
-// Kept beside `long_parts`, as `short_word` beside `long_word`: a long fraction goes over two words, and one
-// function over the width would only ask for it again.
-pub fn short_parts(w: u32) -> Parts
-    ensures { result ≡ short_parts w }
-{
-    Parts {
-        sign: w / 0x8000_0000,
-        characteristic: w / 0x100_0000 % 128,
-        fraction: (w % 0x100_0000) as u64,
+impl Parts {
+    pub(crate) fn words(self, width: Width) -> Words
+        requires { Operand (digits_of width) self }
+        ensures { result ≡ words_of width self }
+    {
+        match width {
+            Width::Short => Words {
+                high: self.short_word(),
+                low: 0,
+            },
+            Width::Long => self.long_word(),
+        }
     }
-}
 
-fn long_parts(a: Words) -> Parts
-    ensures { result ≡ long_parts a }
-{
-    Parts {
-        sign: a.high / 0x8000_0000,
-        characteristic: a.high / 0x100_0000 % 128,
-        fraction: (a.high % 0x100_0000) as u64 * 0x1_0000_0000 + a.low as u64,
+    // Kept beside `long`, as `short_word` beside `long_word`: the upper digits of a long fraction stand in another
+    // word than the lower ones, so that one function over the width would have a case for each part.
+    pub(crate) fn short(w: u32) -> Parts
+        ensures { result ≡ short_parts w }
+    {
+        Parts {
+            sign: w / 0x8000_0000,
+            characteristic: w / 0x100_0000 % 128,
+            fraction: (w % 0x100_0000) as u64,
+        }
     }
-}
 
-pub fn words_of(width: Width, p: Parts) -> Words
-    requires { Operand (digits_of width) p }
-    ensures { result ≡ words_of width p }
-{
-    match width {
-        Width::Short => Words {
-            high: short_word(p),
-            low: 0,
-        },
-        Width::Long => long_word(p),
+    fn long(a: Words) -> Parts
+        ensures { result ≡ long_parts a }
+    {
+        let upper = Parts::short(a.high);
+        Parts {
+            fraction: upper.fraction * 0x1_0000_0000 + a.low as u64,
+            ..upper
+        }
     }
-}
 
-pub fn short_word(p: Parts) -> u32
-    requires { Operand 6 p }
-    ensures { result ≡ short_word p }
-{
-    p.sign * 0x8000_0000 + p.characteristic * 0x100_0000 + p.fraction as u32
-}
+    pub(crate) fn short_word(self) -> u32
+        requires { Operand 6 self }
+        ensures { result ≡ short_word self }
+    {
+        self.sign * 0x8000_0000 + self.characteristic * 0x100_0000 + self.fraction as u32
+    }
 
-fn long_word(p: Parts) -> Words
-    requires { Operand 14 p }
-    ensures { result ≡ long_word p }
-{
-    let upper = (p.fraction / 0x1_0000_0000) as u32;
-    Words {
-        high: p.sign * 0x8000_0000 + p.characteristic * 0x100_0000 + upper,
-        low: (p.fraction % 0x1_0000_0000) as u32,
+    fn long_word(self) -> Words
+        requires { Operand 14 self }
+        ensures { result ≡ long_word self }
+    {
+        let upper = (self.fraction / 0x1_0000_0000) as u32;
+        Words {
+            high: self.sign * 0x8000_0000 + self.characteristic * 0x100_0000 + upper,
+            low: (self.fraction % 0x1_0000_0000) as u32,
+        }
     }
 }

@@ -14,7 +14,7 @@ use Rattle.hexfloat.proofs.Fits.{width_fits, no_bits}
 use Rattle.hexfloat.proofs.Results.{of_zero}
 use Rattle.hexfloat.proofs.Wholes.{first_digits-placed}
 use Rattle.hexfloat.proofs.addition.normalise_sum.Goals as goal
-use Rattle.hexfloat.proofs.addition.normalise_sum.Goals.{After-digits_of-d}
+use Rattle.hexfloat.proofs.addition.normalise_sum.Goals.{After-digits-d}
 
 pub returns-then-m-eq0 : goal.returns-then-m-eq0
 unfolding result_of_sum
@@ -24,15 +24,15 @@ returns-then-m-eq0 c =
     ∙ ap (mapped (words_of a.width))
     (sym (of_zero _ _ _ (a.s.magnitude * 16 ^ a.c) _ (ap (λ (x : ℕ). x * 16 ^ a.c) c.if-m-eq0.true ∙ zero-mul (16 ^ a.c))))
 
-module _ (c : After-digits_of-d) where
+module _ (c : After-digits-d) where
   abbrev w : Width
   w = c.args.width
 
   abbrev m : ℕ
   m = c.args.s.magnitude
 
-  abbrev d_is : c.digits_of-d.result ≡ digits_of w
-  d_is = c.digits_of-d.ensures
+  abbrev d_is : c.digits-d.result ≡ digits_of w
+  d_is = c.digits-d.ensures
 
 pub overflow_add-d : goal.overflow_add-d
 overflow_add-d c = omega (arith, d_is c, width_fits (w c))
@@ -41,7 +41,7 @@ pub normalised_result-requires : goal.normalised_result-requires
 normalised_result-requires c = record { sign_bound = c.requires.1; m_nonzero = pos_of_ne-zero c.if-m-eq0.false; up_bound = omega (arith, c.requires.0) }
 
 -- where the intermediate sum stands
-placed : (c : After-digits_of-d) → IsPlaced (digits_of (w c)) (m c * 16 ^ c.args.c) (16 ^ (65 + digits_of (w c))) (c.args.c + digits (m c)) (c.digits_of-d.result + 1) (first_digits (digits_of (w c)) (m c))
+placed : (c : After-digits-d) → IsPlaced (digits_of (w c)) (m c * 16 ^ c.args.c) (16 ^ (65 + digits_of (w c))) (c.args.c + digits (m c)) (c.digits-d.result + 1) (first_digits (digits_of (w c)) (m c))
 placed c =
     let d : ℕ = digits_of (w c) in
     let k : ℕ = c.args.c in
@@ -51,5 +51,5 @@ placed c =
 pub returns : goal.returns
 unfolding result_of_sum
 returns c =
-    let l = (goal.at.returns c).After-digits_of-d in
+    let l = (goal.at.returns c).After-digits-d in
     c.normalised_result.ensures (m l * 16 ^ l.args.c) (16 ^ (65 + digits_of (w l))) (pos (65 + digits_of (w l))) (placed l)

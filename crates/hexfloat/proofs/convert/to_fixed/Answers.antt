@@ -10,28 +10,28 @@ use Rattle.hexfloat.proofs.Fits.{short_fits}
 use Rattle.hexfloat.proofs.convert.to_fixed.Goals as goal
 
 pub returns-then-p-eq0 : goal.returns-then-p-eq0
-returns-then-p-eq0 c = sym (fixed_of_zero _ (rw c.short_parts-p.ensures at c.if-p-eq0.true))
+returns-then-p-eq0 c = sym (fixed_of_zero _ (rw c.short-p.ensures at c.if-p-eq0.true))
 
 pub returns-then-p-gt73 : goal.returns-then-p-gt73
 returns-then-p-gt73 c =
     let w = c.args.w in
-    let e = c.short_parts-p.ensures in
+    let e = c.short-p.ensures in
     let far : 73 < (short_parts w).characteristic = rw e at c.if-p-gt73.true in
     let some : 0 < (short_parts w).fraction = pos_of_ne-zero (rw e at c.if-p-eq0.false) in
     sym (overflows w (omega (arith, fixed_large (short_parts w) far some, (short_fits w c.ranges.w.fits).sign)))
 
 pub integer-m-requires : goal.integer-m-requires
-integer-m-requires c = record { operand = rw c.short_parts-p.ensures (short_fits _ c.ranges.w.fits); characteristic_bound = omega arith }
+integer-m-requires c = record { operand = rw c.short-p.ensures (short_fits _ c.ranges.w.fits); characteristic_bound = omega arith }
 
 pub returns-then-p-m : goal.returns-then-p-m
-returns-then-p-m c = sym (overflows _ (rw (c.integer-m.ensures, c.short_parts-p.ensures) at c.if-p-m.true))
+returns-then-p-m c = sym (overflows _ (rw (c.integer-m.ensures, c.short-p.ensures) at c.if-p-m.true))
 
 pub signed_word-word-requires : goal.signed_word-word-requires
 signed_word-word-requires c =
-    omega (arith, ap (λ (p : Parts). p.sign) c.short_parts-p.ensures, c.ranges.w)
+    omega (arith, ap (λ (p : Parts). p.sign) c.short-p.ensures, c.ranges.w)
 
 pub returns : goal.returns
 returns c =
-    let e = c.short_parts-p.ensures in
+    let e = c.short-p.ensures in
     let m = c.integer-m.ensures in
     rw (c.signed_condition.ensures, c.signed_word-word.ensures, m, e) (sym (fixed _ (rw (m, e) at c.if-p-m.false)))

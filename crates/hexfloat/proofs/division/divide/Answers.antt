@@ -15,10 +15,10 @@ use Rattle.hexfloat.proofs.Fits.{held, width_fits, no_bits, fraction_most}
 use Rattle.hexfloat.proofs.Normalised.{magnitude_positive, magnitude-zero}
 use Rattle.hexfloat.proofs.Results.{by_zero, by_some, of_zero}
 use Rattle.hexfloat.proofs.division.divide.Goals as goal
-use Rattle.hexfloat.proofs.division.divide.Goals.{After-leading_digits-fraction, After-leads-lead, After-parts_of-y}
+use Rattle.hexfloat.proofs.division.divide.Goals.{After-leading_digits-fraction, After-leads-lead, After-parts-y}
 
 -- with the parts of both operands
-module _ (c : After-parts_of-y) where
+module _ (c : After-parts-y) where
   abbrev w : Width
   w = c.args.width
 
@@ -26,26 +26,26 @@ module _ (c : After-parts_of-y) where
   mask = c.args.mask
 
   abbrev x : Parts
-  x = c.parts_of-x.result
+  x = c.parts-x.result
 
   abbrev y : Parts
-  y = c.parts_of-y.result
+  y = c.parts-y.result
 
   fits : Operands (digits_of w) x y
   fits =
       let a = c.args in
-      held w a.a a.b c.parts_of-x.ensures c.parts_of-y.ensures (record { high = omega arith; low = omega arith }) (record { high = omega arith; low = omega arith })
+      held w a.a a.b c.parts-x.ensures c.parts-y.ensures (record { high = omega arith; low = omega arith }) (record { high = omega arith; low = omega arith })
 
   said : mapped (words_of w) (quotient (digits_of w) mask x y) ≡ quotient_words w mask c.args.a c.args.b
-  said = in_words w mask c.args.a c.args.b c.parts_of-x.ensures c.parts_of-y.ensures
+  said = in_words w mask c.args.a c.args.b c.parts-x.ensures c.parts-y.ensures
 
 -- where neither is zero, with their normalised forms
 module _ (c : After-leads-lead) where
-  abbrev parts : After-parts_of-y
+  abbrev parts : After-parts-y
   parts = c.before.before.before.before.before.before.before.before
 
-  abbrev d_is : c.digits_of-d.result ≡ digits_of (w parts)
-  d_is = c.digits_of-d.ensures
+  abbrev d_is : c.digits-d.result ≡ digits_of (w parts)
+  d_is = c.digits-d.ensures
 
   ready : Ready (digits_of (w parts)) (x parts) (y parts) c.normalise-n.result c.normalise-m.result c.leads-lead.result
   ready = record {
@@ -71,22 +71,22 @@ placed c =
 
 pub returns-then-y-eq0 : goal.returns-then-y-eq0
 returns-then-y-eq0 c =
-    ap (mapped (words_of (w (goal.at.returns-then-y-eq0 c).After-parts_of-y))) (sym (by_zero _ _ _ _ (magnitude-zero _ (y (goal.at.returns-then-y-eq0 c).After-parts_of-y) c.if-y-eq0.true)))
-    ∙ said (goal.at.returns-then-y-eq0 c).After-parts_of-y
+    ap (mapped (words_of (w (goal.at.returns-then-y-eq0 c).After-parts-y))) (sym (by_zero _ _ _ _ (magnitude-zero _ (y (goal.at.returns-then-y-eq0 c).After-parts-y) c.if-y-eq0.true)))
+    ∙ said (goal.at.returns-then-y-eq0 c).After-parts-y
 
 pub returns-then-x-eq0 : goal.returns-then-x-eq0
 returns-then-x-eq0 c =
-    let s = (goal.at.returns-then-x-eq0 c).After-parts_of-y in
+    let s = (goal.at.returns-then-x-eq0 c).After-parts-y in
     ap gives (sym (no_bits (w s)))
     ∙ ap (mapped (words_of (w s)))
     (sym (by_some _ (mask s) (x s) (y s) (magnitude_positive (fits s).second (pos_of_ne-zero c.if-y-eq0.false)) ∙ of_zero _ _ _ _ _ (magnitude-zero _ (x s) c.if-x-eq0.true)))
     ∙ said s
 
 pub normalise-m-requires : goal.normalise-m-requires
-normalise-m-requires c = rw c.digits_of-d.ensures (fits (goal.at.normalise-m-requires c).After-parts_of-y).second
+normalise-m-requires c = rw c.digits-d.ensures (fits (goal.at.normalise-m-requires c).After-parts-y).second
 
 pub normalise-n-requires : goal.normalise-n-requires
-normalise-n-requires c = rw c.digits_of-d.ensures (fits (goal.at.normalise-n-requires c).After-parts_of-y).first
+normalise-n-requires c = rw c.digits-d.ensures (fits (goal.at.normalise-n-requires c).After-parts-y).first
 
 pub overflow_sub-d : goal.overflow_sub-d
 overflow_sub-d c = omega (arith, lead_few (ready c), d_is c, width_fits (w (parts c)))

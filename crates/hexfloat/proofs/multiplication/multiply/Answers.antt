@@ -11,10 +11,10 @@ use Rattle.hexfloat.specs.Word.{digits_of, words_of, short_words, true_zero}
 use Rattle.hexfloat.proofs.Fits.{held, no_bits}
 use Rattle.hexfloat.proofs.Multiplied.{zero_first, zero_second, in_words}
 use Rattle.hexfloat.proofs.multiplication.multiply.Goals as goal
-use Rattle.hexfloat.proofs.multiplication.multiply.Goals.{After-parts_of-y, Else-y-eq0}
+use Rattle.hexfloat.proofs.multiplication.multiply.Goals.{After-parts-y, Else-y-eq0}
 
 -- with the parts of both operands
-module _ (c : After-parts_of-y) where
+module _ (c : After-parts-y) where
   abbrev v : Width
   v = c.args.operands
 
@@ -25,21 +25,21 @@ module _ (c : After-parts_of-y) where
   mask = c.args.mask
 
   abbrev x : Parts
-  x = c.parts_of-x.result
+  x = c.parts-x.result
 
   abbrev y : Parts
-  y = c.parts_of-y.result
+  y = c.parts-y.result
 
   fits : Operands (digits_of v) x y
   fits =
       let a = c.args in
-      held v a.a a.b c.parts_of-x.ensures c.parts_of-y.ensures (record { high = omega arith; low = omega arith }) (record { high = omega arith; low = omega arith })
+      held v a.a a.b c.parts-x.ensures c.parts-y.ensures (record { high = omega arith; low = omega arith }) (record { high = omega arith; low = omega arith })
 
   -- the product in words, the operands' width being u
   said : {u : Width} → v ≡ u → mapped (words_of w) (product (digits_of u) (digits_of w) mask x y) ≡ product_words v w mask c.args.a c.args.b
   said e =
       subst (λ (z : Width). mapped (words_of w) (product (digits_of z) (digits_of w) mask x y) ≡ product_words v w mask c.args.a c.args.b) e
-      (in_words v w mask c.args.a c.args.b c.parts_of-x.ensures c.parts_of-y.ensures)
+      (in_words v w mask c.args.a c.args.b c.parts-x.ensures c.parts-y.ensures)
 
   -- a zero fraction of either
   none : product (digits_of v) (digits_of w) mask x y ≡ gives true_zero → gives (short_words 0) ≡ product_words v w mask c.args.a c.args.b
@@ -47,7 +47,7 @@ module _ (c : After-parts_of-y) where
 
 -- where neither is zero
 module _ (c : Else-y-eq0) where
-  abbrev parts : After-parts_of-y
+  abbrev parts : After-parts-y
   parts = c.before.before.before.before
 
   factors : {u : Width} → v parts ≡ u → Factors (digits_of u) (x parts) (y parts)
@@ -56,10 +56,10 @@ module _ (c : Else-y-eq0) where
       (record { first = (fits parts).first; second = (fits parts).second; some_first = c.if-x-eq0.false; some_second = c.if-y-eq0.false })
 
 pub returns-then-x-eq0 : goal.returns-then-x-eq0
-returns-then-x-eq0 c = none (goal.at.returns-then-x-eq0 c).After-parts_of-y (zero_first _ _ _ (x (goal.at.returns-then-x-eq0 c).After-parts_of-y) _ c.if-x-eq0.true)
+returns-then-x-eq0 c = none (goal.at.returns-then-x-eq0 c).After-parts-y (zero_first _ _ _ (x (goal.at.returns-then-x-eq0 c).After-parts-y) _ c.if-x-eq0.true)
 
 pub returns-then-y-eq0 : goal.returns-then-y-eq0
-returns-then-y-eq0 c = none (goal.at.returns-then-y-eq0 c).After-parts_of-y (zero_second _ _ _ _ (y (goal.at.returns-then-y-eq0 c).After-parts_of-y) c.if-y-eq0.true)
+returns-then-y-eq0 c = none (goal.at.returns-then-y-eq0 c).After-parts-y (zero_second _ _ _ _ (y (goal.at.returns-then-y-eq0 c).After-parts-y) c.if-y-eq0.true)
 
 pub multiply_short-requires : goal.multiply_short-requires
 multiply_short-requires c = factors (goal.at.multiply_short-requires c).Else-y-eq0 c.in-Short.is

@@ -28,8 +28,8 @@ returns-else-mask c = λ a b some r. ap gives (sym (no_bits c.args.width)) ∙ u
 pub returns-then-characteristic-gt127 : goal.returns-then-characteristic-gt127
 returns-then-characteristic-gt127 c = λ a b some r. ap (mapped (words_of c.args.width)) (sym (above_limits _ _ _ a b _ _ _ some r c.if-up-down.false c.if-characteristic-gt127.true))
 
-pub words_of-requires : goal.words_of-requires
-words_of-requires c =
+pub words-requires : goal.words-requires
+words-requires c =
     record {
       some = (width_fits c.args.width).0;
       most = (width_fits c.args.width).1;
@@ -39,4 +39,4 @@ words_of-requires c =
     }
 
 pub returns : goal.returns
-returns c = λ a b some r. ap gives c.words_of.ensures ∙ ap (mapped (words_of c.args.width)) (sym (within_limits _ _ _ a b _ _ _ some r c.if-up-down.false c.if-characteristic-gt127.false))
+returns c = λ a b some r. ap gives c.words.ensures ∙ ap (mapped (words_of c.args.width)) (sym (within_limits _ _ _ a b _ _ _ some r c.if-up-down.false c.if-characteristic-gt127.false))
