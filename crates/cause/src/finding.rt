@@ -16,7 +16,7 @@ use crate::naming::{Cause, NO_CAUSE, Named};
 use crate::storage::{lowest_absent, lowest_protected};
 use crate::words::words_read;
 use machine::{Registers, State, Stop};
-use orders::{LegalOrder, Order, address, halts, legal, order_at, span, stored};
+use orders::{LegalOrder, Order, address, legal, order_at};
 
 // A stop of the next step, and what brought it about.
 fn stopped(stop: Stop, named: Named) -> Cause
@@ -58,10 +58,10 @@ fn access(l: LegalOrder, registers: Registers, memory: &[u16], protect: &[u8]) -
     let selector = status.selector as u32;
     let at = address(o, &general, selector);
     let Ok(q) = machine::fetch(o, &float, &general, selector, memory) else {
-        let absent = lowest_absent(at, span(op), memory.len());
+        let absent = lowest_absent(at, op.span(), memory.len());
         return stopped(Stop::AbsentStorage, Named::Address(absent));
     };
-    let n = stored(op);
+    let n = op.stored();
     let a = lowest_protected(protect, at, n);
     if a < at + n {
         return stopped(Stop::ProtectedStorage, Named::Address(a));
@@ -88,7 +88,7 @@ fn examine(
     let Some(l) = legal(o) else {
         return stopped(Stop::IllegalOrder, Named::Cell(first_broken(o)));
     };
-    if halts(l.operation.verb) {
+    if l.operation.verb.halts() {
         return no_cause(); // a step's 12
     }
     if used as usize >= journal / 4 {

@@ -15,7 +15,7 @@ use crate::effect::effect;
 use crate::state::{Onward, Status};
 use crate::stop::Stop;
 use crate::verdict::Verdict;
-use orders::{LegalOrder, address, halts, legal, span, stored};
+use orders::{LegalOrder, address, legal};
 
 // Checks 2 and 3.
 #[tactic(auto, unfolding(crate::specs::Decide::held_stop))]
@@ -97,17 +97,17 @@ fn judge(
 {
     let op = l.operation;
     let full = used as usize >= journal / 4;
-    if halts(op.verb) {
+    if op.verb.halts() {
         return Err(Stop::Halted);
     }
     if full {
         return Err(Stop::JournalFull);
     }
     let at = address(l.order, general, s.status.selector as u32);
-    if !is_present(span(op), at, memory.len()) {
+    if !is_present(op.span(), at, memory.len()) {
         return Err(Stop::AbsentStorage);
     }
-    if any_protected(protect, at, stored(op)) {
+    if any_protected(protect, at, op.stored()) {
         return Err(Stop::ProtectedStorage);
     }
     effect(l, float, general, s, memory, at)

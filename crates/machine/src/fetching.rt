@@ -7,7 +7,7 @@ use crate::check::is_present;
 use crate::operand::{float_operand, second_operand};
 use crate::stop::Stop;
 use hexfloat::Words;
-use orders::{Operation, Order, address, legal, span};
+use orders::{Operation, Order, address, legal};
 
 // R r1 or pair r1, and the second operand, with the order's row.
 #[derive(Clone, Copy)]
@@ -32,7 +32,7 @@ pub fn fetch(
     };
     let operation = l.operation;
     let at = address(l.order, general, selector);
-    if !is_present(span(operation), at, memory.len()) {
+    if !is_present(operation.span(), at, memory.len()) {
         return Err(Stop::AbsentStorage);
     }
     let first = float_operand(operation.width, float, l.order.r1 as u32);

@@ -17,5 +17,5 @@ pub use deck::order_at;
 pub use general::{general_at, general_cell};
 pub use legal_order::LegalOrder;
 pub use legality::legal;
-pub use order::{Operation, Order, Place, Verb, halts, jumps, look_up, selects, span, stored};
+pub use order::{Operation, Order, Place, Verb, look_up};
 pub use role::{Role, role_read, role_written};

@@ -148,44 +148,48 @@ fn operand_halfwords(width: Width) -> u32
     }
 }
 
-// How many halfwords S has.
-pub fn span(op: Operation) -> u32
-    ensures { result ≡ span_of op }
-{
-    match op.place {
-        Place::Nowhere | Place::FloatRegister | Place::GeneralRegister => 0,
-        Place::Storage => operand_halfwords(op.width),
+impl Operation {
+    // How many halfwords S has.
+    pub fn span(self) -> u32
+        ensures { result ≡ span_of self }
+    {
+        match self.place {
+            Place::Nowhere | Place::FloatRegister | Place::GeneralRegister => 0,
+            Place::Storage => operand_halfwords(self.width),
+        }
+    }
+
+    // How many of them are stored to.
+    pub fn stored(self) -> u32
+        ensures { result ≡ stored_of self }
+    {
+        match self.verb {
+            Verb::Store => operand_halfwords(self.width),
+            Verb::StoreGeneral => 2,
+            _ => 0,
+        }
     }
 }
 
-// How many of them are stored to.
-pub fn stored(op: Operation) -> u32
-    ensures { result ≡ stored_of op }
-{
-    match op.verb {
-        Verb::Store => operand_halfwords(op.width),
-        Verb::StoreGeneral => 2,
-        _ => 0,
+impl Verb {
+    // HALT.
+    pub fn halts(self) -> bool
+        ensures { result ≡ is_halt self }
+    {
+        matches!(self, Verb::Halt)
     }
-}
 
-// HALT.
-pub fn halts(verb: Verb) -> bool
-    ensures { result ≡ is_halt verb }
-{
-    matches!(verb, Verb::Halt)
-}
+    // JC and JN.
+    pub fn jumps(self) -> bool
+        ensures { result ≡ is_jump self }
+    {
+        matches!(self, Verb::Jump | Verb::CountDown)
+    }
 
-// JC and JN.
-pub fn jumps(verb: Verb) -> bool
-    ensures { result ≡ is_jump verb }
-{
-    matches!(verb, Verb::Jump | Verb::CountDown)
-}
-
-// SET.
-pub fn selects(verb: Verb) -> bool
-    ensures { result ≡ is_select verb }
-{
-    matches!(verb, Verb::Select)
+    // SET.
+    pub fn selects(self) -> bool
+        ensures { result ≡ is_select self }
+    {
+        matches!(self, Verb::Select)
+    }
 }

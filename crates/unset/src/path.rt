@@ -24,7 +24,7 @@ pub fn index(x: Point) -> usize
 pub fn selector_after(verb: Verb, o: Order, s: u32) -> u32
     ensures { result ≡ selector_after verb o s }
 {
-    if orders::selects(verb) {
+    if verb.selects() {
         return o.r2 as u32;
     }
     s

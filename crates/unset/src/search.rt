@@ -72,7 +72,7 @@ fn take_up(deck: &[u16], search: &mut Search, place: usize)
         return;
     };
     let verb = l.operation.verb;
-    if orders::halts(verb) {
+    if verb.halts() {
         return;
     }
     let bits = unwritten_of(search.unwritten[place], written(l, selector));
@@ -81,7 +81,7 @@ fn take_up(deck: &[u16], search: &mut Search, place: usize)
         selector: selector_after(verb, l.order, selector),
     };
     reach(search, orders, on, bits);
-    if orders::jumps(verb) {
+    if verb.jumps() {
         let to = Point {
             order: l.order.at as u32,
             selector,
