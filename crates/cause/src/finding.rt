@@ -16,7 +16,7 @@ use crate::naming::{Cause, NO_CAUSE, Named};
 use crate::storage::{lowest_absent, lowest_protected};
 use crate::words::words_read;
 use machine::{Registers, State, Stop};
-use orders::{LegalOrder, Order, address, legal, order_at};
+use orders::{LegalOrder, Order, legal, order_at};
 
 // A stop of the next step, and what brought it about.
 fn stopped(stop: Stop, named: Named) -> Cause
@@ -56,7 +56,7 @@ fn access(l: LegalOrder, registers: Registers, memory: &[u16], protect: &[u8]) -
     let general = registers.general;
     let status = registers.status;
     let selector = status.selector as u32;
-    let at = address(o, &general, selector);
+    let at = o.address(&general, selector);
     let Ok(q) = machine::fetch(o, &float, &general, selector, memory) else {
         let absent = lowest_absent(at, op.span(), memory.len());
         return stopped(Stop::AbsentStorage, Named::Address(absent));

@@ -15,7 +15,7 @@ use crate::effect::effect;
 use crate::state::{Onward, Status};
 use crate::stop::Stop;
 use crate::verdict::Verdict;
-use orders::{LegalOrder, address, legal};
+use orders::{LegalOrder, legal};
 
 // Checks 2 and 3.
 #[tactic(auto, unfolding(crate::specs::Decide::held_stop))]
@@ -103,7 +103,7 @@ fn judge(
     if full {
         return Err(Stop::JournalFull);
     }
-    let at = address(l.order, general, s.status.selector as u32);
+    let at = l.order.address(general, s.status.selector as u32);
     if !is_present(op.span(), at, memory.len()) {
         return Err(Stop::AbsentStorage);
     }

@@ -7,7 +7,7 @@ use crate::check::is_present;
 use crate::operand::{float_operand, second_operand};
 use crate::stop::Stop;
 use hexfloat::Words;
-use orders::{Operation, Order, address, legal};
+use orders::{Operation, Order, legal};
 
 // R r1 or pair r1, and the second operand, with the order's row.
 #[derive(Clone, Copy)]
@@ -31,7 +31,7 @@ pub fn fetch(
         return Err(Stop::IllegalOrder);
     };
     let operation = l.operation;
-    let at = address(l.order, general, selector);
+    let at = l.order.address(general, selector);
     if !is_present(operation.span(), at, memory.len()) {
         return Err(Stop::AbsentStorage);
     }

@@ -16,9 +16,11 @@ fn index(r: u16, general: &[u32; 16], selector: u32) -> u32
     general_at(general, selector, r as u32) % 65536
 }
 
-// The address of S, up to 131,070: the one place that computes it.
-pub fn address(o: Order, general: &[u32; 16], selector: u32) -> u32
-    ensures { result ≡ address_of o general.now selector }
-{
-    o.at as u32 + index(o.r2, general, selector)
+impl Order {
+    // The address of S, up to 131,070: the one place that computes it.
+    pub fn address(self, general: &[u32; 16], selector: u32) -> u32
+        ensures { result ≡ address_of self general.now selector }
+    {
+        self.at as u32 + index(self.r2, general, selector)
+    }
 }

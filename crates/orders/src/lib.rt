@@ -12,10 +12,9 @@ mod legality;
 mod order;
 mod role;
 
-pub use addressing::address;
 pub use deck::order_at;
 pub use general::{general_at, general_cell};
 pub use legal_order::LegalOrder;
 pub use legality::legal;
 pub use order::{Operation, Order, Place, Verb, look_up};
-pub use role::{Role, role_read, role_written};
+pub use role::Role;

@@ -18,27 +18,30 @@ pub enum Role {
     General,
 }
 
-// As it is read. A load, a complement and a conversion do not read what they write to.
-pub fn role_read(verb: Verb) -> Role
-    ensures { result ≡ role_read verb }
-{
-    match verb {
-        Verb::Compare | Verb::Divide | Verb::Store | Verb::Sum(_) | Verb::Multiply => Role::Operand,
-        Verb::StoreGeneral => Role::General,
-        Verb::CountDown => Role::General, // it reads first, then writes
-        _ => Role::Nothing,
+impl Verb {
+    // As it is read. A load, a complement and a conversion do not read what they write to.
+    pub fn role_read(self) -> Role
+        ensures { result ≡ role_read self }
+    {
+        match self {
+            Verb::Compare | Verb::Divide | Verb::Store | Verb::Sum(_) | Verb::Multiply =>
+                Role::Operand,
+            Verb::StoreGeneral => Role::General,
+            Verb::CountDown => Role::General, // it reads first, then writes
+            _ => Role::Nothing,
+        }
     }
-}
 
-// As it is written.
-pub fn role_written(verb: Verb) -> Role
-    ensures { result ≡ role_written verb }
-{
-    match verb {
-        Verb::Load | Verb::Complement | Verb::Divide | Verb::Sum(_) => Role::Operand,
-        Verb::Multiply => Role::Product,
-        Verb::Float => Role::Float,
-        Verb::Fix | Verb::LoadGeneral | Verb::CountDown => Role::General,
-        _ => Role::Nothing,
+    // As it is written.
+    pub fn role_written(self) -> Role
+        ensures { result ≡ role_written self }
+    {
+        match self {
+            Verb::Load | Verb::Complement | Verb::Divide | Verb::Sum(_) => Role::Operand,
+            Verb::Multiply => Role::Product,
+            Verb::Float => Role::Float,
+            Verb::Fix | Verb::LoadGeneral | Verb::CountDown => Role::General,
+            _ => Role::Nothing,
+        }
     }
 }

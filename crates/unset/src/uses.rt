@@ -53,7 +53,7 @@ pub fn read(l: LegalOrder, s: u32) -> u32
     ensures { result ≡ read_bits l.operation l.order s }
 {
     let op = l.operation;
-    named_bits(orders::role_read(op.verb), op.width, l.order.r1, s) | second_read(l, s)
+    named_bits(op.verb.role_read(), op.width, l.order.r1, s) | second_read(l, s)
 }
 
 pub fn written(l: LegalOrder, s: u32) -> u32
@@ -61,5 +61,5 @@ pub fn written(l: LegalOrder, s: u32) -> u32
     ensures { result ≡ bits_of (written_by l.operation l.order s) }
 {
     let op = l.operation;
-    named_bits(orders::role_written(op.verb), op.width, l.order.r1, s)
+    named_bits(op.verb.role_written(), op.width, l.order.r1, s)
 }
