@@ -68,16 +68,6 @@ placed order bytes h = placed_by (eqb bytes 0) h
 placed storage bytes h = absurd (omega arith)
 placed halfword bytes h = halfword_placed
 
-few_by : (t : Bool) → cond t 0 4 ≤ 4
-few_by true = omega arith
-few_by false = omega arith
-
-pub few : (w : Wanted) (bytes : ℕ) → value_count w bytes ≤ 4
-few heading bytes = omega arith
-few order bytes = few_by (eqb bytes 0)
-few storage bytes = omega arith
-few halfword bytes = omega arith
-
 -- ---- orders and halfwords
 
 wrong : {B : Type 0} {k : Kind} {n : ℕ} → Placed k n → (vs : List (List ℕ)) → (length vs ≡ n → ⊥) → (f : List ℕ → Answer B) → stops 16 ≡ and_then (parsed k 0 vs) f
