@@ -1,4 +1,4 @@
-// Reading a deck text: the walk over its lines stages what they give; a good text is written.
+// Reading a deck text: the walk over lines and values stages what they give; a good text is written.
 ghost use Rattle.std.specs.Prelude.{◌≡◌, ◌≤◌, length};
 ghost use Rattle.protection.specs.Bits.{bitwise};
 ghost use Rattle.decktext.specs.Read.{buffers, outcome, says_reading, number_said, line_said, read_text};
