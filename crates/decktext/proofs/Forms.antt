@@ -3,6 +3,7 @@ use Prim.Native.Nat.{ℕ, ◌+◌, ◌*◌, ◌≤◌, ◌<◌}
 use mathlib.Core.Path.{◌≡◌, refl, sym, ap, ◌∙◌, subst}
 use mathlib.Core.Bool.{Bool, true, false, cond}
 use mathlib.Core.List.{List, [], ◌∷◌}
+use native.Mathlib.Nat.{le_refl, sub-zero}
 use native.Mathlib.Omega.{arith}
 use lib.Dec.{eqb, leb, ltb}
 use lib.ListN.{length, take}
@@ -17,10 +18,11 @@ use Rattle.decktext.specs.Text.{same, values_of}
 use Rattle.decktext.specs.Value.{mnemonic_code, decimal_of, protect_of, word_of}
 use Rattle.decktext.specs.Format.{deck_heading, storage_heading, passes, legal, order_from, order_of, Halfword, halfword_from, halfword_of}
 use Rattle.decktext.specs.Read.{Wanted, heading, order, storage, halfword, Progress, Given, headed, ordered, parted, stored, order_fits, halfword_fits, line_as}
-use Rattle.decktext.specs.Walk.{Storable, value_count, in_place, value_as, order_from_values, halfword_from_values, judged_line}
+use Rattle.decktext.specs.Walk.{Stretch, Storable, value_count, in_place, value_as, order_from_values, halfword_from_values, judged_line}
 use Rattle.decktext.proofs.Same.{same_none, same_length}
 use Rattle.decktext.proofs.Answers.{Is16, Only16, only_code, only_decimal, only_protect, only_word, protect_small}
-use Rattle.decktext.proofs.Parsed.{Kind, parsed, Placed, parsed_only, wrong_count}
+use Rattle.decktext.proofs.Lines.{part}
+use Rattle.decktext.proofs.Parsed.{Kind, parsed, Placed, parsed_only, wrong_count, Taking, bad}
 
 -- ---- the values' places
 
@@ -65,16 +67,6 @@ placed heading bytes h = absurd (omega arith)
 placed order bytes h = placed_by (eqb bytes 0) h
 placed storage bytes h = absurd (omega arith)
 placed halfword bytes h = halfword_placed
-
-few_by : (t : Bool) → cond t 0 4 ≤ 4
-few_by true = omega arith
-few_by false = omega arith
-
-pub few : (w : Wanted) (bytes : ℕ) → value_count w bytes ≤ 4
-few heading bytes = omega arith
-few order bytes = few_by (eqb bytes 0)
-few storage bytes = omega arith
-few halfword bytes = omega arith
 
 -- ---- orders and halfwords
 
@@ -254,5 +246,22 @@ sound_fits (a_halfword h r f) = f
 pub placed_at : (w : Wanted) (bytes n : ℕ) → n ≡ value_count w bytes → 0 < n → Placed (value_as w) n
 placed_at w bytes n e h = rw e (placed w bytes (rw e at h))
 
-pub values_at : (w : Wanted) (line : List ℕ) (n : ℕ) (v : List ℕ) → n ≡ value_count w (length line) → (0 < n → parsed (value_as w) 0 (values_of line) ≡ gives (take n v)) → Values w line v
-values_at w line n v e h = subst (λ (m : ℕ). 0 < m → parsed (value_as w) 0 (values_of line) ≡ gives (take m v)) e h
+-- a line is its own part from its start to its end
+whole : (line : List ℕ) → part 0 (length line) line ≡ line
+whole line = rw sub-zero (take_all (length line) line (le_refl (length line)))
+
+-- n values of the line are wanted, and i of them are taken
+module _ (w : Wanted) (p : Progress) {line : List ℕ} {n from i : ℕ} {v : List ℕ}
+    (count : n ≡ value_count w (length line)) (r : Taking (value_as w) n line 0 (length line) from i v) where
+  -- with all of them a line reads as it is judged
+  pub judged_with : n ≤ i → line_as w p line ≡ judged_line w p line v
+  judged_with l =
+      judged w p line v r.size
+      (subst (λ (m : ℕ). 0 < m → parsed (value_as w) 0 (values_of line) ≡ gives (take m v)) count
+      (λ g. rw whole at (r.taken g (omega (arith, r.within)))))
+
+  -- a fault of the next one is the line's
+  pub faulty_with : {to : ℕ} → i < n → Stretch line from (length line) 32 to → value_as w i (eqb to (length line)) (part from to line) ≡ stops 16
+      → line_as w p line ≡ stops 16
+  faulty_with l s h =
+      faulty_line w p line (rw (← count) (omega arith)) (rw whole at (bad r l s (le_refl (length line)) h))

@@ -1,5 +1,5 @@
--- The values of a line, parsed one after the other: what holds between two values, and its laws (start, on, bad).
-use Prim.Native.Nat.{ℕ, ◌+◌, ◌≤◌, ◌<◌, zero-le}
+-- The values of a line, parsed one after the other: what holds between two values, and its laws (on, bad).
+use Prim.Native.Nat.{ℕ, ◌+◌, ◌≤◌, ◌<◌}
 use mathlib.Core.Path.{◌≡◌, refl, ap, ◌∙◌}
 use mathlib.Core.Bool.{Bool, true, false}
 use mathlib.Core.List.{List, [], ◌∷◌, ◌++◌}
@@ -60,10 +60,6 @@ abbrev more : List ℕ → Answer (List ℕ) → Answer (List ℕ)
 more ys (gives xs) = gives (ys ++ xs)
 more ys (stops n) = stops n
 
-more_none : (a : Answer (List ℕ)) → a ≡ more [] a
-more_none (gives xs) = refl
-more_none (stops n) = refl
-
 more_next : (ys : List ℕ) (x : ℕ) (a : Answer (List ℕ)) → more ys (and_then a (λ xs. gives (x ∷ xs))) ≡ more (ys ++ (x ∷ [])) a
 more_next ys x (gives xs) = rw append_snoc
 more_next ys x (stops n) = refl
@@ -76,16 +72,6 @@ pub record Taking (k : Kind) (n : ℕ) (t : List ℕ) (at end from i : ℕ) (val
   pub inside : i < n → from ≤ end
   pub going : i < n → parsed k 0 (values_of (part at end t)) ≡ more (take i values) (parsed k i (values_of (part from end t)))
   pub taken : 0 < n → i ≡ n → parsed k 0 (values_of (part at end t)) ≡ gives (take n values)
-
-pub start : {k : Kind} (n : ℕ) {t : List ℕ} {at end : ℕ} (values : List ℕ) → n ≤ 4 → at ≤ end → length values ≡ 4 → Taking k n t at end at 0 values
-start {k} n {t} {at} {end} values few l s = record {
-  within = zero-le;
-  few = few;
-  size = s;
-  inside = λ h. l;
-  going = λ h. more_none (parsed k 0 (values_of (part at end t)));
-  taken = λ h e. absurd (omega arith);
-}
 
 module _ {k : Kind} {n : ℕ} {t : List ℕ} {at end from i : ℕ} {values : List ℕ} {to : ℕ}
     (r : Taking k n t at end from i values) (l : i < n) (s : Stretch t from end 32 to) (fits : end ≤ length t) where

@@ -17,7 +17,7 @@ use Rattle.decktext.specs.Fault.{fault_number}
 use Rattle.decktext.specs.Text.{same, lines_of}
 use Rattle.decktext.specs.Value.{all, marked_digit, number_from, mnemonic_code, decimal_of, protect_of, word_of}
 use Rattle.decktext.specs.Format.{deck_heading, storage_heading, legal, Halfword}
-use Rattle.decktext.specs.Read.{Buffers, Said, taken, refused, says_reading, Wanted, heading, order, storage, halfword, Progress, start, Given, headed, ordered, parted, stored, order_fits, halfword_fits, line_as, Read, whole, faulty, lines_read}
+use Rattle.decktext.specs.Read.{Buffers, Said, taken, refused, says_reading, Wanted, heading, order, storage, halfword, Progress, start, Given, headed, ordered, parted, stored, order_fits, halfword_fits, Read, whole, faulty, lines_read}
 use Rattle.decktext.specs.Staged.{replayed, Landing}
 
 -- r is the first place from `from` on, and before `end`, that holds the byte b, or `end`
@@ -113,11 +113,6 @@ judged_line heading p line v = provided (same line deck_heading) 16 (gives heade
 judged_line order p line v = cond (same line []) (gives parted) (and_then (legal (order_from_values v)) (order_fits p))
 judged_line storage p line v = provided (same line storage_heading) 16 (gives headed)
 judged_line halfword p line v = halfword_fits p (halfword_from_values v)
-
--- with its values a line reads as it is judged; a fault of theirs is the line's
-abbrev pub ReadBy : Wanted → List ℕ → Result (List ℕ) Fault → Type 0
-ReadBy w line (Ok v) = (p : Progress) → line_as w p line ≡ judged_line w p line v
-ReadBy w line (Err f) = (p : Progress) → line_as w p line ≡ stops (fault_number f)
 
 -- what the end of the text says
 abbrev pub end_said : Wanted → ℕ → ℕ → Said

@@ -1,11 +1,9 @@
-// Reading a deck text: the walk over its lines stages what they give; a good text is written.
-ghost use Rattle.std.specs.Prelude.{◌≡◌, ◌≤◌, ◌<◌, length};
+// Reading a deck text: the walk over lines and values stages what they give; a good text is written.
+ghost use Rattle.std.specs.Prelude.{◌≡◌, ◌≤◌, length};
 ghost use Rattle.protection.specs.Bits.{bitwise};
-ghost use Rattle.decktext.specs.Read.{Buffers, buffers, outcome, says_reading, number_said, line_said, line_read, read_text};
-ghost use Rattle.decktext.specs.Walk.{wanted_of, progress_of, says_judged, Sized, ReadBy, end_said, Walked};
+ghost use Rattle.decktext.specs.Read.{buffers, outcome, says_reading, number_said, line_said, read_text};
+ghost use Rattle.decktext.specs.Walk.{wanted_of, end_said, Walked};
 
-use crate::fault::Fault;
-use crate::given::Given;
 use crate::line::{Progress, Sizes, Wanted, advance, judge, start, value, values_wanted};
 use crate::reader::LineReader;
 use crate::refusal::Refusal;
@@ -86,7 +84,18 @@ fn walk(
         let Some(bytes) = reader.read() else {
             break 'lines Err(Refusal::Malformed(line));
         };
-        let g = match read_line(p, bytes, sizes, tables) {
+        let end = bytes.len();
+        let mut values = [0; 4];
+        let mut from = 0;
+        for i in 0..values_wanted(p.wanted, end) {
+            let to = find(bytes, from, end, b' ');
+            let Some(v) = value(p.wanted, i, to == end, &bytes[from..to], tables) else {
+                break 'lines Err(Refusal::Malformed(line));
+            };
+            values[i] = v;
+            from = to + 1;
+        }
+        let g = match judge(p, bytes, values, sizes) {
             Ok(g) => g,
             Err(fault) => break 'lines Err(fault.at(line)),
         };
@@ -94,34 +103,6 @@ fn walk(
         p = advance(p, g);
         line += 1;
     }
-}
-
-// What a line gives, or its fault.
-fn read_line(p: Progress, line: &[u8], sizes: Sizes, tables: &Tables) -> Result<Given, Fault>
-    requires { (p.count < 65536) × (length line.now ≤ 32768) }
-    ensures { (b : Buffers) → Sized b sizes → says_judged result ≡ line_read (progress_of p b) line.now }
-{
-    let values = values_of(p.wanted, line, tables)?;
-    judge(p, line, values, sizes)
-}
-
-// The values of a line; the first that is malformed is the line's fault.
-fn values_of(w: Wanted, line: &[u8], tables: &Tables) -> Result<[u16; 4], Fault>
-    requires { length line.now ≤ 32768 }
-    ensures { ReadBy (wanted_of w) line.now result }
-{
-    let end = line.len();
-    let mut values = [0; 4];
-    let mut from = 0;
-    for i in 0..values_wanted(w, end) {
-        let to = find(line, from, end, b' ');
-        let Some(v) = value(w, i, to == end, &line[from..to], tables) else {
-            return Err(Fault::Malformed);
-        };
-        values[i] = v;
-        from = to + 1;
-    }
-    Ok(values)
 }
 
 fn at_end(line: u32, p: Progress) -> Result<u32, Refusal>

@@ -1,4 +1,6 @@
 use Rattle.decktext.proofs.Walking.{Walking}
+use Rattle.decktext.proofs.Parsed.{Taking}
+use Rattle.decktext.specs.Walk.{wanted_of, value_as}
 use Rattle.protection.specs.Bits.{bitwise}
 use Rattle.decktext.specs.Read.{buffers}
 use lib.ListN.{length}
@@ -11,3 +13,6 @@ invariant-lines l = (l.reader.text.now ≡ l.text) × Walking l.text (buffers l.
 
 abbrev pub decreases-lines : goal.decreases-lines
 decreases-lines l = length l.text - l.reader.at
+
+abbrev pub invariant-loop-i : goal.invariant-loop-i
+invariant-loop-i l = Taking (value_as (wanted_of l.p.wanted)) l.i-end l.bytes 0 l.end l.from l.i l.values
