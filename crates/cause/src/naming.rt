@@ -1,7 +1,8 @@
 // What the tool answers.
 use crate::cell::Cell;
 
-// What is named beside a number. `Nothing` is kept: it is one of the words of specs/Cause.
+// What is named beside a number.
+// Kept: `Nothing` among the cases, as in specs/Cause; by an `Option` each match would have as many arms.
 #[derive(Clone, Copy)]
 pub enum Named {
     Nothing,
@@ -15,7 +16,8 @@ pub enum Named {
 // The number where a stop of the next step is none of 20 and 1 to 11, or there is none.
 pub const NO_CAUSE: u8 = 18;
 
-// The number of the stop that the next step gives, or `NO_CAUSE`. Kept a number: 18 is none of a step's.
+// The number of the stop that the next step gives, or `NO_CAUSE`.
+// Kept: a number, of which theorem `true_cause` speaks.
 #[derive(Clone, Copy)]
 pub struct Cause {
     pub number: u8,

@@ -117,7 +117,7 @@ pub fn fill_block(cells: &mut [u16], count: usize, b: Block, i: u32, m: u32) -> 
     requires { BlockFits (length cells.old) count b i m }
     ensures { writing cells.new result ≡ put (orders_in b i m) (writing cells.old count) }
 {
-    // kept a `while`: a turn writes as many orders as its pair has
+    // Kept: a `while`, as a turn writes as many orders as its pair has; a `for` would count what no one needs.
     let mut p = place_at(b, i);
     let mut left = m;
     let mut done = count;

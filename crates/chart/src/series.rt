@@ -6,7 +6,7 @@ ghost use Rattle.chart.specs.Writing.{writing, with_order, put, SeriesFits};
 use orders::Order;
 
 // Writes an order after the `count` that are there; how many there are then.
-// Kept beside the cells, here and in what calls this: the buffer is the caller's, and only its front is written.
+// Kept: the count beside the cells, here and in what calls this, since the buffer is lent by C and stays past it.
 fn put_order(cells: &mut [u16], count: usize, o: Order) -> usize
     requires { (count + 1) * 4 ≤ length cells.old }
     ensures { writing cells.new result ≡ with_order o (writing cells.old count) }

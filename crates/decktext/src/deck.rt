@@ -12,6 +12,7 @@ use crate::staged::Staged;
 use crate::tables::Tables;
 
 // The number of a refusal, or 0.
+// Kept: this and `line_of` by their promise; `From` and `Refusal::line` say the same of a refusal.
 pub fn number_of(r: Result<u32, Refusal>) -> u8
     ensures { result ≡ number_said (says_reading r) }
 {

@@ -24,6 +24,8 @@ pub enum Wanted {
 }
 
 // What the lines so far gave, but for the buffers.
+// Kept: that `count` is below 65,536 is a `requires` of some functions here; as a fact of the type `advance` would have
+// to show it, which follows from the length of the text alone.
 #[derive(Clone, Copy)]
 pub struct Progress {
     pub wanted: Wanted,

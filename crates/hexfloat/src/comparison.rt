@@ -52,7 +52,7 @@ fn rank_signed(s: u32, m: u64, t: u32, n: u64) -> u8
     rank(n, m)
 }
 
-// Kept by two tests: an `Ordering` would be told apart again, as the codes are 0, 1 and 3.
+// Kept: two tests, as an `Ordering` would be told apart again to the codes 0, 1 and 3.
 fn rank(x: u64, y: u64) -> u8
     ensures { result ≡ rank_condition x y }
 {

@@ -16,7 +16,8 @@ pub enum Fault {
     Underflow,
 }
 
-// Width and mask are kept apart, here and in what calls this: the one is the order's, the other the seat's.
+// Kept: width and mask apart, here and in what calls this; a struct of the order's width and the seat's mask would
+// be made for each call and taken apart in it.
 //
 // The result of any ratio that has this fraction and the characteristic up - down, a difference of
 // two places so that it can be below 0.

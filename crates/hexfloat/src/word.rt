@@ -26,8 +26,8 @@ pub struct Coded {
 }
 
 // A number taken apart.
-// Kept without a fact of its own: how many digits a fraction has is said of each use (`Operand`), since a type for
-// each width would have the functions over both stand twice.
+// Kept: how many digits a fraction has is a `requires` (`Operand`), since with a type for each width the functions
+// over both would stand twice. The sign is a number, as the definitions count with it (`sign_by_algebra`).
 #[derive(Clone, Copy)]
 pub struct Parts {
     pub sign: u32,
@@ -71,7 +71,7 @@ impl Parts {
         }
     }
 
-    // Kept beside `long`, as `short_word` beside `long_word`: the upper digits of a long fraction stand in another
+    // Kept: beside `long`, as `short_word` beside `long_word`. The upper digits of a long fraction stand in another
     // word than the lower ones, so that one function over the width would have a case for each part.
     pub(crate) fn short(w: u32) -> Parts
         ensures { result ≡ short_parts w }

@@ -4,6 +4,7 @@ ghost use Rattle.std.specs.Prelude.{length as count};
 
 use crate::digit::hex_digit;
 
+// Kept: bytes and length, and no `ArrayVec`, as `Holds` speaks of the bytes past the length.
 #[derive(Clone, Copy)]
 pub struct Text<const N: usize> {
     pub bytes: [u8; N],

@@ -56,9 +56,10 @@ fn ended(s: Status, used: u32, count: u32, stop: Stop) -> Advanced
     }
 }
 
-// A seat's steps to the limit, which is looked at first, or to a stop. The registers are lent, from here down to
-// where a word is read, and changed in place: a copy of an array that was just stored to waits for the
-// store. So the registers are stored to first, before memory and journal.
+// A seat's steps to the limit, which is looked at first, or to a stop.
+// Kept: both arrays of registers and the status apart, from here down to where a word is read. They are lent and
+// changed in place, since a copy of an array that was just stored to waits for the store. So the registers are
+// stored to first, before memory and journal.
 pub fn advance(
     seat: u32,
     float: &mut [u32; 8],

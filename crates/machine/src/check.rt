@@ -86,7 +86,7 @@ pub fn is_present(span: u32, at: u32, memory: usize) -> bool
 }
 
 // Check 7 for `n` halfwords from `at`.
-// Kept a loop: by `any` every step took a tenth longer.
+// Kept: a loop. By `any` every step took a tenth longer, more than the 1.2 of the tuned implementation that is the bar.
 pub fn any_protected(protect: &[u8], at: u32, n: u32) -> bool
     ensures { result ≡ any_protected (bitwise protect.now) at n }
 {

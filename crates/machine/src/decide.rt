@@ -62,7 +62,7 @@ pub fn admit(
     held(s, other, used, protect, memory, journal)
 }
 
-// The same as the number's name: `Taken` where all pass.
+// Kept: by its promise, which README and docs speak of; `admit` says the same by a `Result`.
 pub fn entry(
     seat: u32,
     s: Status,

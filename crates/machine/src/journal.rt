@@ -98,6 +98,7 @@ fn unpack(head: u32) -> Status
 }
 
 // The record of a change, `base` being word 0 but for its kind.
+// Kept: kinds as numbers, here and where they are read, which are the record's (`encoded_as`, `change_from`).
 #[tactic(auto, unfolding(crate::specs::Journal::encoded_as))]
 fn encode_change(base: u32, ch: Change) -> Record
     requires { base < 16777216 }

@@ -6,7 +6,8 @@
 // `step_seat` what a step leaves of its seat; `registers_of`, `deck_sized`, `admit`, `entry`, `fetch`
 // and `product_width` are for tools that ask and write nothing.
 //
-// Deck, memory, protect list and journal are kept apart in every call: each is lent by itself, to C too.
+// Kept: deck, memory, protect list and journal apart in every call. C lends each by itself, and the clauses speak of
+// two as they are and of two as they were and become, so a struct of all would be taken apart in each.
 #![tactic(auto)]
 
 mod advance;

@@ -8,7 +8,7 @@ ghost use Rattle.machine.specs.Check.{present};
 use hexfloat::{Width, Words};
 use orders::{LegalOrder, Place, general_at};
 
-// Kept as a `requires`, here and below: r is a cell of the order, and check 5 bounds it there.
+// Kept: a `requires`, here and below. A type for r would be taken apart at once, to index by it.
 pub fn float_at(float: &[u32; 8], r: u32) -> u32
     requires { r ≤ 7 }
     ensures { result ≡ float_at float.now r }

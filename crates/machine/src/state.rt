@@ -7,6 +7,7 @@ ghost use Rattle.machine.specs.Seats.{registers_of, other_of, seated};
 // What word 0 of a record saves: condition code, underflow mask, the order that comes next, and which
 // set of general registers is in use. No padding arises, and the size is one at which the compiler
 // keeps the parts apart: four or eight bytes would be one word.
+// Kept: numbers, as C has them.
 #[repr(C)]
 #[derive(Clone, Copy)]
 pub struct Status {

@@ -6,7 +6,7 @@ ghost use Rattle.machine.specs.Stops.{number_of};
 use hexfloat::Fault;
 
 // How a call ended. The paper's number of each is `number`.
-// `Taken`, number 0, is kept: step, run and back hand a state back however they end, by value.
+// Kept: `Taken`, number 0, of which theorem `zero_is_taken` and the promise of `entry` speak.
 #[derive(Clone, Copy, PartialEq, Eq)]
 pub enum Stop {
     Taken,

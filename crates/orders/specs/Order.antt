@@ -95,7 +95,7 @@ within_limits op o = leb o.r1 op.r1 && (leb o.r2 op.r2 && leb o.at op.at)
 unfoldable pub legal_of : Order → Answer Operation
 legal_of o = and_then (operation_of o.code) (λ op. provided (within_limits op o) 5 (gives op))
 
--- what the code's answer says: an order that doesn't pass is a 5
+-- what the code's answer says: an unknown code is a 5
 abbrev pub says_row : Option Operation → Answer Operation
 says_row (Some op) = gives op
 says_row None = stops 5

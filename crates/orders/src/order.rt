@@ -34,7 +34,8 @@ pub enum Verb {
     Select,
 }
 
-// Where its second operand is. `Nowhere` is kept: it is one of the table's words, as in specs/Order.
+// Where its second operand is.
+// Kept: `Nowhere` among the places, as in specs/Order; by an `Option` each match would have as many arms.
 #[derive(Clone, Copy)]
 pub enum Place {
     Nowhere,
@@ -67,7 +68,7 @@ fn row(verb: Verb, width: Width, place: Place, r1: u16, r2: u16, at: u16) -> Ope
     }
 }
 
-// Kept as four: each is a word of the table below, and a definition of specs/; with the place as an argument
+// Kept: four, as each is a word of the table below, and a definition of specs/; with the place as an argument
 // every row would name it.
 fn on_float(verb: Verb, width: Width) -> Operation
     ensures { result ≡ on_float verb width }

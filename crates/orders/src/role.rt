@@ -4,7 +4,8 @@ ghost use Rattle.orders.specs.Role.{role_read, role_written};
 
 use crate::order::Verb;
 
-// The registers that r1 names. `Nothing` is kept: it is one of the words of specs/Role.
+// The registers that r1 names.
+// Kept: `Nothing` among the roles, as in specs/Role; by an `Option` each match would have as many arms.
 #[derive(Clone, Copy)]
 pub enum Role {
     Nothing,

@@ -12,7 +12,7 @@ ghost use Rattle.panel.specs.Explain.{explanation_of};
 use cause::{Cause, Named};
 use machine::State;
 
-// Kept as numbers, here and in the other structs that C receives.
+// Kept: numbers, here and in the other structs, since C receives them.
 //
 // What C receives of a call with two answers: 0 or the number of its refusal, and a count, a line or a seat.
 #[repr(C)]

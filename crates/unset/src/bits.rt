@@ -14,7 +14,7 @@ fn single(k: u32) -> u32
 }
 
 // General register r of set s alone.
-// Kept as a `requires`, here and in uses.rt: both are cells of an order, and check 5 bounds them there.
+// Kept: a `requires`, here and in uses.rt. A type for r or s would be taken apart at once, to shift by it.
 pub fn general_bit(s: u32, r: u16) -> u32
     requires { (s ≤ 1) × (r ≤ 7) }
     ensures { result ≡ bits_of (general s r ∷ []) }
