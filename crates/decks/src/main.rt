@@ -70,6 +70,7 @@ fn complain(rt: HostRuntime, why: Ended) {
     let _ = rt.stderr().write_all(what);
 }
 
+// Kept: a loop of its own beside `each_case` of trial, which has one complaint; here there are two.
 // A proved loop has to end: the turns are more than any run uses up.
 fn main(rt: HostRuntime) {
     for _ in 0..u64::MAX {

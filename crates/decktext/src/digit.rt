@@ -20,6 +20,7 @@ pub fn digit_table() -> [u8; 256]
 }
 
 // The mark of a byte that is no digit.
+// Kept: a number, which `marked_digit` gives for such a byte, so that one test tells it and a digit that is too large.
 const NONE: u8 = 16;
 
 // One entry for each byte value.

@@ -1,4 +1,5 @@
 // A digit 0-9 A-F.
+// Kept: by hand, as a `format` says nothing of the bytes that it gives, and `listing_of` speaks of each.
 ghost use Rattle.std.specs.Prelude.{◌≡◌, ◌<◌};
 ghost use Rattle.listing.specs.Digits.{digit};
 

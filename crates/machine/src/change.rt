@@ -24,6 +24,7 @@ use orders::{general_at, general_cell};
 
 // What is overwritten, and with what: a float register, a float pair, a general register, two or
 // four halfwords.
+// Kept: a case for each kind of a record, `Nothing` and both widths among them, as in `encoded_as` and `change_from`.
 #[derive(Clone, Copy)]
 pub enum Change {
     Nothing,

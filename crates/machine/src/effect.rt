@@ -144,6 +144,7 @@ pub fn product_width(width: Width, r: u32) -> Width
 }
 
 // A result of arithmetic, which sets the condition code or leaves it.
+// Kept: `sets` as a flag, as in `result_into`.
 fn place_result(sets: bool, width: Width, s: Onward, r: u32, res: Result<Words, Fault>) -> Verdict
     ensures { says result ≡ mapped (result_into sets width s.status r) (says_result res) }
 {

@@ -28,6 +28,7 @@ pub fn float_pair(float: &[u32; 8], r: u32) -> Words
 }
 
 // Two halfwords, the left one high.
+// Kept: put together here and taken apart in `put_word`, each once; an array of two would be made to be taken apart.
 pub fn word_at(memory: &[u16], at: usize) -> u32
     requires { at + 2 ≤ length memory.now }
     ensures { result ≡ word_at memory.now at }

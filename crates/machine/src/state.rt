@@ -34,6 +34,8 @@ pub struct Registers {
     pub general: [u32; 16],
 }
 
+// Kept: two fields for the seats, as C has them, and so a test of the seat wherever one is taken or put down.
+//
 // The registers of both seats, and how many records of the journal, which they share, are in use.
 #[repr(C)]
 #[derive(Clone, Copy)]

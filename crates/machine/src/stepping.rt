@@ -11,6 +11,7 @@ use crate::state::{Registers, State, Status, other_of, registers_of, seat_down};
 use crate::stop::Stop;
 
 // What a step leaves of its seat, the used count, and how it ended.
+// Kept: a struct for each call, here and in running.rt and undoing.rt, as each hands back other things by value.
 #[derive(Clone, Copy)]
 pub struct SeatStepped {
     pub registers: Registers,

@@ -5,6 +5,7 @@ ghost use Rattle.orders.specs.Order.{row, on_float, on_general, on_storage, on_c
 use hexfloat::{Sense, Width};
 
 // The four cells of an order.
+// Kept: named one by one where an order is read or written; an array of four would be made to be taken apart.
 #[derive(Clone, Copy)]
 pub struct Order {
     pub code: u16,

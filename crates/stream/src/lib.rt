@@ -24,6 +24,7 @@ pub fn read_all<R: Read>(input: &mut R, buf: &mut [u8]) -> Input
     ensures end { result.failed ≡ false → result.count < length buf.new → IsAtEnd (R.remaining input.new) }
 {
     let mut count = 0;
+    // Kept: a `while`, as a turn reads as much as the reader gives.
     while count < buf.len() {
         match input.read(&mut buf[count..]) {
             Ok(0) => {

@@ -38,6 +38,7 @@ fn latest(
 }
 
 // The stretch in a deck without jumps, where the checks pass.
+// Kept: the stop by its number, here and in trying.rt, as `SixToEleven` and `stops_alike` are of numbers.
 fn search(
     s: State,
     seat: u32,
