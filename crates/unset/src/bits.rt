@@ -1,4 +1,5 @@
 // Sets of the 24 registers, as bits of a word.
+// Kept: a plain word, whose `|` and `&` are what `bits_of` says of union and intersection.
 ghost use Rattle.std.specs.Prelude.{◌≡◌, [], ◌∷◌, ◌^◌, ◌<◌, ◌≤◌};
 ghost use Rattle.machine.specs.Uses.{general, floats};
 ghost use Rattle.unset.specs.Bits.{bits_of};

@@ -16,6 +16,7 @@ pub const PLACES: usize = 8192;
 
 // For each place the registers that reach it unwritten, and whether it waits to be taken up; the places that
 // wait, on a stack.
+// Kept: word and mark of a place in two arrays, since what comes after the search reads the words alone.
 #[derive(Drop)]
 pub struct Search {
     pub unwritten: [u32; PLACES],
