@@ -1,11 +1,14 @@
 // Input by lines, and by texts of a known length.
-ghost use Rattle.std.specs.Prelude.{◌≡◌, IfOk, length};
+ghost use Rattle.std.specs.Prelude.{◌≡◌, ◌⊎◌, IfOk, IfErr, length};
+ghost use Rattle.trial.specs.declared.case.Ended.TheVariants.{Input, Malformed};
 
 use crate::case::Ended;
 use stream::read_all;
 
 /// Fills the space with the bytes that follow in a case.
-pub fn read_bytes(rt: HostRuntime, space: &mut [u8]) -> Result<(), Ended> {
+pub fn read_bytes(rt: HostRuntime, space: &mut [u8]) -> Result<(), Ended>
+    ensures { IfErr result (λ why. why ≡ Malformed) }
+{
     let got = read_all(&mut rt.stdin(), space).count;
     if got == space.len() {
         Ok(())
@@ -15,7 +18,9 @@ pub fn read_bytes(rt: HostRuntime, space: &mut [u8]) -> Result<(), Ended> {
 }
 
 /// The same for the bytes of a line, and the line feed that ends it.
-pub fn read_line(rt: HostRuntime, space: &mut [u8]) -> Result<(), Ended> {
+pub fn read_line(rt: HostRuntime, space: &mut [u8]) -> Result<(), Ended>
+    ensures { IfErr result (λ why. why ≡ Malformed) }
+{
     read_bytes(rt, space)?;
     let mut end = [0u8; 1];
     read_bytes(rt, &mut end)?;
@@ -27,7 +32,9 @@ pub fn read_line(rt: HostRuntime, space: &mut [u8]) -> Result<(), Ended> {
 }
 
 /// A case's first line. The input ends where nothing is left of it, or a read fails.
-pub fn first_line<const N: usize>(rt: HostRuntime) -> Result<[u8; N], Ended> {
+pub fn first_line<const N: usize>(rt: HostRuntime) -> Result<[u8; N], Ended>
+    ensures { IfErr result (λ why. (why ≡ Input) ⊎ (why ≡ Malformed)) }
+{
     let mut line = [0u8; N];
     let got = read_all(&mut rt.stdin(), &mut line).count;
     if got == 0 {
@@ -44,7 +51,8 @@ pub fn first_line<const N: usize>(rt: HostRuntime) -> Result<[u8; N], Ended> {
 
 /// A text of so many bytes, at the start of the space.
 pub fn read_text(rt: HostRuntime, space: &mut [u8], size: usize) -> Result<&[u8], Ended>
-    ensures { IfOk result (λ text. length text.now ≡ size) }
+    ensures size { IfOk result (λ text. length text.now ≡ size) }
+    ensures refused { IfErr result (λ why. why ≡ Malformed) }
 {
     let text = space.get_mut(..size).ok_or(Ended::Malformed)?;
     read_bytes(rt, text)?;
