@@ -67,6 +67,7 @@ fn access(l: LegalOrder, registers: Registers, memory: &[u16], protect: &[u8]) -
         return stopped(Stop::ProtectedStorage, Named::Address(a));
     }
     let stop = attempt(o, q.second, float, status.mask);
+    // Kept: the stop by its number, as `stepped` gives it; `== Stop::Taken` would want a law over all 17 and say no more.
     if machine::number(stop) == 0 {
         return no_cause(); // taken
     }

@@ -27,13 +27,8 @@ pub fn fill_series(cells: &mut [u16], count: usize, first: Order, m: u32) -> usi
     let start = first.at as u32;
     let mut done = count;
     for at in start..start + m {
-        let o = Order {
-            code: first.code,
-            r1: first.r1,
-            r2: first.r2,
-            at: at as u16,
-        };
-        done = put_order(cells, done, o);
+        let at = at as u16;
+        done = put_order(cells, done, Order { at, ..first });
     }
     done
 }

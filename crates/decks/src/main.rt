@@ -9,6 +9,8 @@ use std::io::Print;
 use stream::read_all;
 
 // The number of five digits and a line feed, or none for any other line.
+// Kept: this, `Ended` and the loop beside those of trial, on which this crate does not stand: it tells a length that is
+// not of the form from a text that is too short, and needs nothing else of machine's callers.
 fn length_of(line: &[u8; 6]) -> Option<usize>
     ensures { IfSome result (λ n. n < 100000) }
 {
@@ -70,7 +72,6 @@ fn complain(rt: HostRuntime, why: Ended) {
     let _ = rt.stderr().write_all(what);
 }
 
-// Kept: a loop of its own beside `each_case` of trial, which has one complaint; here there are two.
 // A proved loop has to end: the turns are more than any run uses up.
 fn main(rt: HostRuntime) {
     for _ in 0..u64::MAX {

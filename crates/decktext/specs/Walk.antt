@@ -34,10 +34,10 @@ pub record LineFrom (t : List ℕ) (at : ℕ) (l : LineSpan) : Type 0 where
   pub after : l.end < length t → l.next ≡ l.end + 1
   pub last : length t ≤ l.end → l.next ≡ l.end
 
--- the line from a place within the text, where an LF ends it, and the place after it; or none
+-- the line from a place within the text, where an LF ends it, and the place after it; or none, and the text's end
 abbrev pub LineRead : List ℕ → ℕ → ℕ → Option (Bor (List ℕ)) → Type 0
 LineRead t at next (Some l) = (e : ℕ) × Stretch t at (length t) 10 e × (e < length t) × (next ≡ e + 1) × (l.now ≡ take (e - at) (drop at t))
-LineRead t at next None = Stretch t at (length t) 10 (length t)
+LineRead t at next None = Stretch t at (length t) 10 (length t) × (next ≡ length t)
 
 -- the number of some digits in a base, at most 65,535
 abbrev pub digit_in : ℕ → ℕ → Bool

@@ -27,7 +27,7 @@ impl<'a> LineReader<'a> {
         self.text.len() <= self.at
     }
 
-    // The line at the place, which is after it then; none where no LF ends the line.
+    // The line at the place, which is after it then; none where no LF ends the line, and the place is the text's end.
     pub fn read(&mut self) -> Option<&'a [u8]>
         requires { self.old.at ≤ length self.old.text.now }
         ensures { (self.new.text ≡ self.old.text) × LineRead self.old.text.now self.old.at self.new.at result }

@@ -6,6 +6,7 @@ use protection::mark;
 
 // The values of the orders, four each, then those of the halfwords, three each, and how many halfwords
 // there are. How many orders there are the walk counts.
+// Kept: `halfwords` beside the values, as those of a halfword stand after as many orders as the walk counts.
 #[derive(Drop)]
 pub struct Staged {
     pub values: [u16; 16384],

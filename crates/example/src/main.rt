@@ -36,7 +36,7 @@ fn step_and_return(
 {
     let there = machine::step(s, seat, deck, memory, protect, journal);
     let step = there.stop;
-    // Kept: the stop by its number, of which `Returned` speaks.
+    // Kept: the stop by its number, of which `Returned` speaks; `Stop::Taken` would want a law over all 17 and say no more.
     if machine::number(step) != 0 {
         return Return {
             state: there.state,

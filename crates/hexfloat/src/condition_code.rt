@@ -4,7 +4,7 @@ ghost use Rattle.hexfloat.specs.Condition.{condition_by, condition_of, operand_c
 
 use crate::word::{Parts, Width, Words};
 
-// Kept: condition codes as numbers, here and in what calls this, as the manual and the status have them.
+// Kept: condition codes as numbers (`condition_by`), here and in what calls this, as the manual and the status have them.
 #[tactic(auto, unfolding(crate::specs::Condition::operand_condition))]
 pub fn condition(width: Width, a: Words) -> u8
     ensures { result ≡ operand_condition width a }

@@ -24,7 +24,6 @@ pub fn answer(text: &[u8]) -> Listing
     match decktext::read(text, &mut cells, &mut memory, &mut protect) {
         Ok(count) => {
             let n = count as usize * 4;
-            let limit = 4294967295;
             let fresh = machine::fresh();
             list_run(machine::run(
                 fresh,
@@ -33,7 +32,7 @@ pub fn answer(text: &[u8]) -> Listing
                 &mut memory,
                 &protect,
                 &mut journal,
-                limit,
+                u32::MAX,
             ))
         }
         Err(refusal) => list_refusal(u8::from(refusal), refusal.line()),

@@ -59,7 +59,8 @@ fn ended(s: Status, used: u32, count: u32, stop: Stop) -> Advanced
 // A seat's steps to the limit, which is looked at first, or to a stop.
 // Kept: both arrays of registers and the status apart, from here down to where a word is read. They are lent and
 // changed in place, since a copy of an array that was just stored to waits for the store. So the registers are
-// stored to first, before memory and journal.
+// stored to first, before memory and journal. With the status in one piece sums took 1.7 to 1.9 of the tuned
+// implementation, and 1.25 to 1.6 since (DECISIONS).
 pub fn advance(
     seat: u32,
     float: &mut [u32; 8],

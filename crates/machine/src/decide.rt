@@ -62,7 +62,7 @@ pub fn admit(
     held(s, other, used, protect, memory, journal)
 }
 
-// Kept: by its promise, which README and docs speak of; `admit` says the same by a `Result`.
+// Kept: by its promise, which CONDITIONS and DECISIONS name; `admit` says the same by a `Result`.
 pub fn entry(
     seat: u32,
     s: Status,

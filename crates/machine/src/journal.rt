@@ -69,7 +69,7 @@ fn words(head: u32, place: u32, left: u32, right: u32) -> Record
 }
 
 // Word 0 but for the kind and the seat.
-// Kept: a function, as `unpack` is, since a `From` may ask nothing of what it is given.
+// Kept: a function, since a `From` may ask nothing of what it is given; `unpack` stays beside it as its inverse.
 #[tactic(auto, unfolding(crate::specs::Status::packed))]
 fn pack(s: Status) -> u32
     requires { Packable s }

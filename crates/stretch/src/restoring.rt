@@ -6,7 +6,7 @@ ghost use Rattle.machine.specs.Journal.{record_at, four_words};
 ghost use Rattle.stretch.specs.Restore.{saved_back, record_back, restored};
 
 // Two halfwords, the left one high.
-// Kept: beside the machine's own, which has a `requires`, as no function has that a crate of the product offers.
+// Kept: beside the machine's own, which has a `requires`: the rule is that no crate of the product offers such a function.
 fn put_word(memory: &mut [u16], at: usize, word: u32)
     requires { at + 2 ≤ length memory.old }
     ensures { memory.new ≡ put_word at word memory.old }

@@ -36,7 +36,7 @@ fn forward(state: State, count: u32, stop: Stop) -> Called
 }
 
 // `s` a step of the seat, `b` a back step, a digit a run with that limit, anything else a run with the largest.
-// Kept: deck, memory, protect and journal stand apart, as `called` of the clause is over them and the lists that machine takes.
+// Kept: deck, memory, protect list and journal apart, as in machine's calls, which C makes.
 pub fn call(
     seat: u8,
     byte: u8,
@@ -52,7 +52,7 @@ pub fn call(
     let k = value_of(seat);
     match byte {
         b's' => {
-            // Kept: the stop by its number, which is what `called` of the clause counts by.
+            // Kept: the stop by its number, which `called` counts by; `Stop::Taken` would want a law over all 17 and say no more.
             let r = machine::step(s, k, deck, memory, protect, journal);
             forward(r.state, u32::from(machine::number(r.stop) == 0), r.stop)
         }

@@ -1,8 +1,8 @@
 // What most of the gate's programs share: cases, input by lines and numbers, a call by its two bytes, and
 // what is shown of it.
 //
-// What a program writes is held to outside vectors, so the contracts here speak of the calls alone; of
-// the text it is proved that it is made safely.
+// What a program writes is held to outside vectors, so the contracts here speak of what is read and of the
+// calls; of the text that is written it is proved that it is made safely.
 #![tactic(auto)]
 
 mod answer;

@@ -36,7 +36,7 @@ returns-then-is_done c =
     at_end c.lines.staged c.lines.invariant.1 c.requires.0 (rw c.lines.invariant.0 at (c.is_done.ensures.0 (search rules))) c.at_end.result c.at_end.ensures
 
 pub returns-in_default : goal.returns-in_default
-returns-in_default c = at_fault (unfinished c.lines.invariant.1 (rw c.lines.invariant.0 at c.in_default.ensures.1) (search rules) refl) refl
+returns-in_default c = at_fault (unfinished c.lines.invariant.1 (rw c.lines.invariant.0 at c.in_default.ensures.1).0 (search rules) refl) refl
 
 pub loop-i-preserved : goal.loop-i-preserved
 loop-i-preserved c =
