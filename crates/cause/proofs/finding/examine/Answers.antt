@@ -1,7 +1,6 @@
 -- `cause::finding::examine` meets its contract: the checks in turn.
 -- Assumes nothing.
 use Prim.Native.Nat.{◌/◌}
-use mathlib.Core.Path.{sym, ◌∙◌}
 use native.Mathlib.Omega.{arith}
 use borrow.Author.Tests.{lt-ltb, le-ltb}
 use Rattle.machine.specs.Decide.{judged}
@@ -22,9 +21,6 @@ returns-then-used-journal c =
     let a = c.args in
     let full = le-ltb a.used (a.journal / 4) (omega (arith, c.if-used-journal.true)) in
     rw (c.no_cause-then-used-journal.ensures, ← c.legal.ensures.said, c.in-Some.is, ← c.halts.ensures, c.if-halts.false, full)
-
-pub access-requires : goal.access-requires
-access-requires c = record { goes = sym c.halts.ensures ∙ c.if-halts.false; mask = c.requires }
 
 pub returns : goal.returns
 unfolding judged

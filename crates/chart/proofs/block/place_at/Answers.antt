@@ -4,18 +4,6 @@ use native.Mathlib.Nat.{mod-lt}
 use Rattle.chart.proofs.Places.{some_r2, some_at, place_again}
 use Rattle.chart.proofs.block.place_at.Goals as goal
 
-pub nonzero_div-pair : goal.nonzero_div-pair
-nonzero_div-pair c = some_at c.args.b c.args.i c.requires
-
-pub nonzero_div-result : goal.nonzero_div-result
-nonzero_div-result c = some_r2 c.args.b c.args.i c.requires
-
-pub nonzero_rem-result : goal.nonzero_rem-result
-nonzero_rem-result c = some_r2 c.args.b c.args.i c.requires
-
-pub nonzero_rem-result-2 : goal.nonzero_rem-result-2
-nonzero_rem-result-2 c = some_at c.args.b c.args.i c.requires
-
 pub returns : goal.returns
 returns c =
     let s = c in

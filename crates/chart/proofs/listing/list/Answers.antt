@@ -30,12 +30,6 @@ loop-code-preserved c =
     let more = rw c.block_of.ensures at c.with_block-s.ensures in
     chart_on a.n (omega arith) _ _ _ at.code c.loop-code-test.true at.cells at.s at.invariant _ _ more
 
-pub overflow_cast-result : goal.overflow_cast-result
-overflow_cast-result c = let at = c.loop-code in record { fits = omega (arith, at.invariant.counted, at.invariant.small) }
-
-pub shape_of-cells : goal.shape_of-cells
-shape_of-cells c = c.loop-code.invariant.same
-
 pub returns : goal.returns
 returns c =
     let at = c.loop-code in

@@ -1,13 +1,8 @@
 -- `chart::listing::with_block` meets its contract: the block is skipped, has no room, or has a first order to write. Assumes nothing.
 use native.Mathlib.Omega.{arith}
 use Rattle.chart.specs.Writing.{put}
-use Rattle.chart.proofs.Shown.{size_below, shown_skipped, shown_full, shown_some}
+use Rattle.chart.proofs.Shown.{shown_skipped, shown_full, shown_some}
 use Rattle.chart.proofs.listing.with_block.Goals as goal
-
-pub overflow_add-total : goal.overflow_add-total
-overflow_add-total c =
-    let s = c in
-    record { fits = omega (arith, c.size-n.ensures, size_below s.args.b s.requires.small, s.requires.total) }
 
 pub returns-then-n-skip : goal.returns-then-n-skip
 unfolding put

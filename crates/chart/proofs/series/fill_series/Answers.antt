@@ -1,6 +1,6 @@
 -- `chart::series::fill_series` meets its contract: what is left of the series, written from here, is the whole series from the start. Assumes nothing.
 use Prim.Native.Nat.{◌+◌, ◌-◌}
-use mathlib.Core.Path.{◌≡◌, refl, sym, subst}
+use mathlib.Core.Path.{sym, subst}
 use native.Mathlib.Omega.{arith}
 use lib.ListN.{length}
 use Rattle.chart.specs.Block.{series}
@@ -8,16 +8,6 @@ use Rattle.chart.specs.Chart.{order}
 use Rattle.chart.specs.Writing.{Writing, writing, put}
 use Rattle.chart.proofs.Left.{SeriesLeft, series_on, series_end}
 use Rattle.chart.proofs.series.fill_series.Goals as goal
-
-pub loop-at-init : goal.loop-at-init
-loop-at-init c =
-    let a = c.args in
-    let fits = c.requires in
-    let e : a.first.at + a.m - a.first.at ≡ a.m = omega arith in
-    record { same = refl; fits = record { room = omega (arith, fits.room); cells = omega (arith, fits.cells) }; puts = rw e }
-
-pub put_order-done-requires : goal.put_order-done-requires
-put_order-done-requires c = let r = c.loop-at.invariant in omega (arith, r.fits.room, r.same)
 
 pub loop-at-preserved : goal.loop-at-preserved
 loop-at-preserved c =
@@ -27,9 +17,6 @@ loop-at-preserved c =
     let goal = put (series a.first a.m) (writing a.cells.now a.count) in
     let on = series_on goal (length a.cells.now) a.first.code a.first.r1 a.first.r2 at.at (a.first.at + a.m) (writing at.cells at.done) entry.loop-at-test.true at.invariant in
     subst (λ (s : Writing). SeriesLeft goal (length a.cells.now) (order a.first.code a.first.r1 a.first.r2 (at.at + 1)) (a.first.at + a.m - (at.at + 1)) s) (sym c.put_order-done.ensures) on
-
-pub shape_of-cells : goal.shape_of-cells
-shape_of-cells c = c.loop-at.invariant.same
 
 pub returns : goal.returns
 returns c =

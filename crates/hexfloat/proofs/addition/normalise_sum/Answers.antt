@@ -34,12 +34,6 @@ module _ (c : After-digits-d) where
   abbrev d_is : c.digits-d.result ≡ digits_of w
   d_is = c.digits-d.ensures
 
-pub overflow_add-d : goal.overflow_add-d
-overflow_add-d c = omega (arith, d_is c, width_fits (w c))
-
-pub normalised_result-requires : goal.normalised_result-requires
-normalised_result-requires c = record { sign_bound = c.requires.1; m_nonzero = pos_of_ne-zero c.if-m-eq0.false; up_bound = omega (arith, c.requires.0) }
-
 -- where the intermediate sum stands
 placed : (c : After-digits-d) → IsPlaced (digits_of (w c)) (m c * 16 ^ c.args.c) (16 ^ (65 + digits_of (w c))) (c.args.c + digits (m c)) (c.digits-d.result + 1) (first_digits (digits_of (w c)) (m c))
 placed c =

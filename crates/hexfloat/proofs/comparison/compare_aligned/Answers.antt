@@ -5,9 +5,6 @@ use Rattle.hexfloat.specs.Compare.{signed_rank, compared_aligned}
 use Rattle.hexfloat.specs.Operand.{prealigned}
 use Rattle.hexfloat.proofs.comparison.compare_aligned.Goals as goal
 
-pub prealign-p-requires : goal.prealign-p-requires
-prealign-p-requires c = c.requires
-
 pub returns : goal.returns
 unfolding compared_aligned prealigned
 returns c =

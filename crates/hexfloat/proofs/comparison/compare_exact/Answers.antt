@@ -5,12 +5,6 @@ use Rattle.hexfloat.specs.Compare.{signed_rank}
 use Rattle.hexfloat.proofs.Compared.{keys_rank}
 use Rattle.hexfloat.proofs.comparison.compare_exact.Goals as goal
 
-pub magnitude_key-requires : goal.magnitude_key-requires
-magnitude_key-requires c = c.requires.first
-
-pub magnitude_key-requires-2 : goal.magnitude_key-requires-2
-magnitude_key-requires-2 c = c.requires.second
-
 pub returns : goal.returns
 returns c =
     let s = c.before.before.before in

@@ -8,7 +8,7 @@ use lib.Count.{count_leading_zeros}
 use Rattle.hexfloat.specs.Normal.{digits, characteristic_of, fraction_of}
 use Rattle.hexfloat.specs.Convert.{word_magnitude, float_parts}
 use Rattle.hexfloat.proofs.Converted.{characteristic, fraction}
-use Rattle.hexfloat.proofs.Digits.{leading_digits, digits-positive, moved_left}
+use Rattle.hexfloat.proofs.Digits.{leading_digits, moved_left}
 use Rattle.hexfloat.proofs.Normalised.{moved_most}
 use Rattle.hexfloat.proofs.convert.float_parts.Goals as goal
 use Rattle.hexfloat.proofs.convert.float_parts.Goals.{After-magnitude-m}
@@ -22,15 +22,6 @@ zeros c = leading_digits 8 c.magnitude-m.result c.magnitude-m.type_inv
 pub returns-then-m-eq0 : goal.returns-then-m-eq0
 unfolding float_parts
 returns-then-m-eq0 c = rw (eq-eqb (word_magnitude c.args.w) 0 (sym c.magnitude-m.ensures ∙ c.if-m-eq0.true))
-
-pub overflow_sub-result : goal.overflow_sub-result
-overflow_sub-result c = omega (arith, zeros (goal.at.overflow_sub-result c).After-magnitude-m)
-
-pub overflow_mul-result : goal.overflow_mul-result
-overflow_mul-result c = omega (arith, zeros (goal.at.overflow_mul-result c).After-magnitude-m)
-
-pub overflow_shl-result : goal.overflow_shl-result
-overflow_shl-result c = omega (arith, zeros (goal.at.overflow_shl-result c).After-magnitude-m, digits-positive (pos_of_ne-zero c.if-m-eq0.false))
 
 pub returns : goal.returns
 unfolding float_parts

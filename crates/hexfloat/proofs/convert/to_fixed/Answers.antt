@@ -1,9 +1,8 @@
 -- `to_fixed` meets its contract: each way out of the code has its law.
-use mathlib.Core.Path.{sym, ap}
+use mathlib.Core.Path.{sym}
 use Prim.Native.Nat.{◌<◌}
 use native.Mathlib.Nat.{pos_of_ne-zero}
 use native.Mathlib.Omega.{arith}
-use Rattle.hexfloat.specs.declared.word.Parts.{Parts}
 use Rattle.hexfloat.specs.Word.{short_parts}
 use Rattle.hexfloat.proofs.Converted.{fixed, fixed_of_zero, fixed_large, overflows}
 use Rattle.hexfloat.proofs.Fits.{short_fits}
@@ -20,15 +19,8 @@ returns-then-p-gt73 c =
     let some : 0 < (short_parts w).fraction = pos_of_ne-zero (rw e at c.if-p-eq0.false) in
     sym (overflows w (omega (arith, fixed_large (short_parts w) far some, (short_fits w c.ranges.w.fits).sign)))
 
-pub integer-m-requires : goal.integer-m-requires
-integer-m-requires c = record { operand = rw c.short-p.ensures (short_fits _ c.ranges.w.fits); characteristic_bound = omega arith }
-
 pub returns-then-p-m : goal.returns-then-p-m
 returns-then-p-m c = sym (overflows _ (rw (c.integer-m.ensures, c.short-p.ensures) at c.if-p-m.true))
-
-pub signed_word-word-requires : goal.signed_word-word-requires
-signed_word-word-requires c =
-    omega (arith, ap (λ (p : Parts). p.sign) c.short-p.ensures, c.ranges.w)
 
 pub returns : goal.returns
 returns c =

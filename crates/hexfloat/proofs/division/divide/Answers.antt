@@ -11,7 +11,7 @@ use Rattle.hexfloat.specs.Word.{digits_of, words_of, magnitude}
 use Rattle.hexfloat.specs.Divide.{quotient, quotient_words}
 use Rattle.hexfloat.specs.Operand.{Operands, IsPlaced}
 use Rattle.hexfloat.proofs.Divided.{Ready, dividend_bounds, divisor_bounds, lead_few, ratio_placed, in_words}
-use Rattle.hexfloat.proofs.Fits.{held, width_fits, no_bits, fraction_most}
+use Rattle.hexfloat.proofs.Fits.{held, no_bits, fraction_most}
 use Rattle.hexfloat.proofs.Normalised.{magnitude_positive, magnitude-zero}
 use Rattle.hexfloat.proofs.Results.{by_zero, by_some, of_zero}
 use Rattle.hexfloat.proofs.division.divide.Goals as goal
@@ -82,15 +82,6 @@ returns-then-x-eq0 c =
     (sym (by_some _ (mask s) (x s) (y s) (magnitude_positive (fits s).second (pos_of_ne-zero c.if-y-eq0.false)) ∙ of_zero _ _ _ _ _ (magnitude-zero _ (x s) c.if-x-eq0.true)))
     ∙ said s
 
-pub normalise-m-requires : goal.normalise-m-requires
-normalise-m-requires c = rw c.digits-d.ensures (fits (goal.at.normalise-m-requires c).After-parts-y).second
-
-pub normalise-n-requires : goal.normalise-n-requires
-normalise-n-requires c = rw c.digits-d.ensures (fits (goal.at.normalise-n-requires c).After-parts-y).first
-
-pub overflow_sub-d : goal.overflow_sub-d
-overflow_sub-d c = omega (arith, lead_few (ready c), d_is c, width_fits (w (parts c)))
-
 pub leading_digits-fraction-requires : goal.leading_digits-fraction-requires
 leading_digits-fraction-requires c =
     record {
@@ -100,9 +91,6 @@ leading_digits-fraction-requires c =
       divisor = (divisor_bounds (ready c)).most;
       normal = (divisor_bounds (ready c)).least;
     }
-
-pub overflow_add-sign : goal.overflow_add-sign
-overflow_add-sign c = omega (arith, (fits (parts (goal.at.overflow_add-sign c).After-leads-lead)).first.sign, (fits (parts (goal.at.overflow_add-sign c).After-leads-lead)).second.sign)
 
 pub overflow_add-n : goal.overflow_add-n
 overflow_add-n c = omega (arith, (dividend_bounds (ready (goal.at.overflow_add-n c).After-leads-lead)).place)

@@ -1,7 +1,7 @@
 -- `take_turn` meets its contract: the shifts lose nothing, and the estimate with what it leaves is the whole.
 use mathlib.Core.Path.{◌≡◌, refl, ap, ◌∙◌}
-use Prim.Native.Nat.{ℕ, ◌+◌, ◌-◌, ◌*◌, ◌/◌, ◌%◌, ◌^◌, ◌<◌}
-use native.Mathlib.Nat.{lt_of_le_of_lt, mod-eq_of_lt, div-mul-le_self, div-le_self}
+use Prim.Native.Nat.{ℕ, ◌+◌, ◌-◌, ◌*◌, ◌/◌, ◌%◌, ◌^◌}
+use native.Mathlib.Nat.{lt_of_le_of_lt, mod-eq_of_lt, div-mul-le_self}
 use native.Mathlib.Omega.{arith}
 use Rattle.hexfloat.specs.Operand.{Turning, turn_of}
 use Rattle.hexfloat.proofs.Digits.{four_bits}
@@ -34,20 +34,11 @@ module _ (c : Start) where
   high_whole : up k rest b e t refl * 16 ^ k % 18446744073709551616 ≡ up k rest b e t refl * 16 ^ k
   high_whole = mod-eq_of_lt (shifted_fits k rest b e t refl)
 
-pub overflow_add-e : goal.overflow_add-e
-overflow_add-e c = rw four_bits (record { fits = room (b c / 16 ^ (k c - 2)) (lt_of_le_of_lt (div-le_self (b c) (16 ^ (k c - 2))) (t c).divisor) })
-  where
-    room : (x : ℕ) → x < 16 ^ 14 → x + 1 < 2 ^ 64
-    room x h = omega arith
-
 pub overflow_mul-high : goal.overflow_mul-high
 overflow_mul-high c = rw (four_bits (k c - 2), four_bits (k c), dividend_whole c) (record { fits = lt_of_le_of_lt (under (k c) (rest c) (b c) (e c) (t c) refl) (omega (arith, (t c).dividend)) })
 
 pub overflow_sub-high : goal.overflow_sub-high
 overflow_sub-high c = rw (four_bits (k c - 2), four_bits (k c), dividend_whole c) (under (k c) (rest c) (b c) (e c) (t c) refl)
-
-pub overflow_sub-low : goal.overflow_sub-low
-overflow_sub-low c = rw (four_bits (k c), divisor_whole c) (div-mul-le_self (b c) (16 ^ k c))
 
 pub overflow_mul-e-2 : goal.overflow_mul-e-2
 overflow_mul-e-2 c = rw (four_bits (k c - 2), four_bits (k c), dividend_whole c, divisor_whole c) (record { fits = lt_of_le_of_lt (enough (k c) (rest c) (b c) (e c) (t c) refl) (shifted_fits (k c) (rest c) (b c) (e c) (t c) refl) })

@@ -61,12 +61,6 @@ returns-then-x-eq0 c = none (goal.at.returns-then-x-eq0 c).After-parts-y (zero_f
 pub returns-then-y-eq0 : goal.returns-then-y-eq0
 returns-then-y-eq0 c = none (goal.at.returns-then-y-eq0 c).After-parts-y (zero_second _ _ _ _ (y (goal.at.returns-then-y-eq0 c).After-parts-y) c.if-y-eq0.true)
 
-pub multiply_short-requires : goal.multiply_short-requires
-multiply_short-requires c = factors (goal.at.multiply_short-requires c).Else-y-eq0 c.in-Short.is
-
-pub multiply_long-requires : goal.multiply_long-requires
-multiply_long-requires c = factors (goal.at.multiply_long-requires c).Else-y-eq0 c.in-Long.is
-
 pub returns-in-Short : goal.returns-in-Short
 returns-in-Short c = c.multiply_short.ensures ∙ said (parts (goal.at.returns-in-Short c).Else-y-eq0) c.in-Short.is
 

@@ -18,26 +18,5 @@ module _ (c : Start) where
   first_part : high_by_high c.args.a c.args.b + middle c.args.a c.args.b / 16 ^ 6 < 16 ^ 16
   first_part = first_part_most c.args.a c.args.b c.requires.0 c.requires.1
 
-pub overflow_mul-low : goal.overflow_mul-low
-overflow_mul-low c = record { fits = omega (arith, low_low c) }
-
-pub overflow_mul-middle : goal.overflow_mul-middle
-overflow_mul-middle c = record { fits = omega (arith, high_low c) }
-
-pub overflow_mul-middle-2 : goal.overflow_mul-middle-2
-overflow_mul-middle-2 c = record { fits = omega (arith, low_high c) }
-
-pub overflow_add-middle : goal.overflow_add-middle
-overflow_add-middle c = record { fits = omega (arith, high_low c, low_high c) }
-
-pub overflow_add-middle-2 : goal.overflow_add-middle-2
-overflow_add-middle-2 c = record { fits = omega (arith, high_low c, low_high c, low_low c) }
-
-pub overflow_mul-high : goal.overflow_mul-high
-overflow_mul-high c = record { fits = omega (arith, first_part c) }
-
-pub overflow_add-high : goal.overflow_add-high
-overflow_add-high c = record { fits = omega (arith, first_part c) }
-
 pub returns : goal.returns
 returns c = (parts_whole c.args.a c.args.b, omega arith)

@@ -16,15 +16,6 @@ use Rattle.hexfloat.proofs.Normalised.{Bounds}
 use Rattle.hexfloat.proofs.multiplication.multiply_long.Goals as goal
 use Rattle.hexfloat.proofs.multiplication.multiply_long.Goals.{After-multiply_fractions-p, After-normalise-n, Start}
 
-pub overflow_add-sign : goal.overflow_add-sign
-overflow_add-sign c = omega (arith, c.requires.first.sign, c.requires.second.sign)
-
-pub normalise-m-requires : goal.normalise-m-requires
-normalise-m-requires c = c.requires.second
-
-pub normalise-n-requires : goal.normalise-n-requires
-normalise-n-requires c = c.requires.first
-
 -- with the normalised forms of both operands
 module _ (c : After-normalise-n) where
   abbrev start : Start

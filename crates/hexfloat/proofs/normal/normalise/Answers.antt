@@ -13,18 +13,6 @@ use Rattle.hexfloat.proofs.normal.normalise.Goals as goal
 pub overflow_sub-shift-2 : goal.overflow_sub-shift-2
 overflow_sub-shift-2 c = omega (arith, leading_zeros c.requires, digits_few c.requires)
 
-pub overflow_sub-result : goal.overflow_sub-result
-overflow_sub-result c = omega (arith, leading_zeros c.requires, digits_few c.requires)
-
-pub overflow_mul-result : goal.overflow_mul-result
-overflow_mul-result c = omega (arith, leading_zeros c.requires, digits_few c.requires)
-
-pub overflow_cast-result : goal.overflow_cast-result
-overflow_cast-result c = omega (arith, leading_zeros c.requires, digits_few c.requires)
-
-pub overflow_shl-result : goal.overflow_shl-result
-overflow_shl-result c = omega (arith, leading_zeros c.requires, digits_few c.requires)
-
 pub returns : goal.returns
 unfolding normalised
 returns c =

@@ -6,7 +6,7 @@ use Rattle.hexfloat.specs.Answer.{gives, mapped}
 use Rattle.hexfloat.specs.Operand.{IsPlaced}
 use Rattle.hexfloat.specs.Result.{result_of, underflow}
 use Rattle.hexfloat.specs.Word.{digits_of, words_of}
-use Rattle.hexfloat.proofs.Fits.{width_fits, no_bits}
+use Rattle.hexfloat.proofs.Fits.{no_bits}
 use Rattle.hexfloat.proofs.Placed.{below_limits, above_limits, within_limits}
 use Rattle.hexfloat.proofs.result.limited.Goals as goal
 use Rattle.hexfloat.proofs.result.limited.Goals.{Then-up-down}
@@ -27,16 +27,6 @@ returns-else-mask c = λ a b some r. ap gives (sym (no_bits c.args.width)) ∙ u
 
 pub returns-then-characteristic-gt127 : goal.returns-then-characteristic-gt127
 returns-then-characteristic-gt127 c = λ a b some r. ap (mapped (words_of c.args.width)) (sym (above_limits _ _ _ a b _ _ _ some r c.if-up-down.false c.if-characteristic-gt127.true))
-
-pub words-requires : goal.words-requires
-words-requires c =
-    record {
-      some = (width_fits c.args.width).0;
-      most = (width_fits c.args.width).1;
-      sign = c.requires.sign_bound;
-      characteristic = c.if-characteristic-gt127.false;
-      fraction = c.requires.fraction_bound;
-    }
 
 pub returns : goal.returns
 returns c = λ a b some r. ap gives c.words.ensures ∙ ap (mapped (words_of c.args.width)) (sym (within_limits _ _ _ a b _ _ _ some r c.if-up-down.false c.if-characteristic-gt127.false))

@@ -7,10 +7,9 @@ use Rattle.hexfloat.specs.declared.word.Width.{Width}
 use Rattle.hexfloat.specs.Normal.{digits}
 use Rattle.hexfloat.specs.Operand.{first_digits}
 use Rattle.hexfloat.specs.Word.{digits_of}
-use Rattle.hexfloat.proofs.Digits.{digits-positive, leading_digits}
-use Rattle.hexfloat.proofs.Fits.{width_fits}
+use Rattle.hexfloat.proofs.Digits.{leading_digits}
 use Rattle.hexfloat.proofs.Placed.{same_place}
-use Rattle.hexfloat.proofs.Wholes.{moved_right, first_digits_most}
+use Rattle.hexfloat.proofs.Wholes.{moved_right}
 use Rattle.hexfloat.proofs.result.normalised_result.Goals as goal
 use Rattle.hexfloat.proofs.result.normalised_result.Goals.{After-digits-d}
 
@@ -30,30 +29,6 @@ module _ (c : After-digits-d) where
   -- the two shifts of the code
   shifted : m * 2 ^ (4 * (count_leading_zeros 64 m / 4)) % 2 ^ 64 / 2 ^ (4 * (16 - c.digits-d.result)) ≡ first_digits (digits_of w) m
   shifted = moved_right (digits_of w) c.digits-d.result m (count_leading_zeros 64 m / 4) d_is zeros
-
-pub overflow_mul-fraction : goal.overflow_mul-fraction
-overflow_mul-fraction c = omega (arith, zeros c)
-
-pub overflow_cast-fraction : goal.overflow_cast-fraction
-overflow_cast-fraction c = omega (arith, zeros c)
-
-pub overflow_shl-fraction : goal.overflow_shl-fraction
-overflow_shl-fraction c = omega (arith, zeros c, digits-positive c.requires.m_nonzero)
-
-pub overflow_sub-fraction : goal.overflow_sub-fraction
-overflow_sub-fraction c = omega (arith, d_is c, width_fits (w c))
-
-pub overflow_shr-fraction : goal.overflow_shr-fraction
-overflow_shr-fraction c = omega (arith, d_is c, width_fits (w c))
-
-pub overflow_add-up : goal.overflow_add-up
-overflow_add-up c = omega (arith, c.requires.up_bound)
-
-pub overflow_sub-up : goal.overflow_sub-up
-overflow_sub-up c = omega (arith, zeros c)
-
-pub limited-requires : goal.limited-requires
-limited-requires c = record { sign_bound = c.requires.sign_bound; fraction_bound = rw (shifted c) (first_digits_most (digits_of (w c)) (m c) (omega (arith, zeros c)) (omega (arith, width_fits (w c)))) }
 
 pub returns : goal.returns
 returns c = λ a b some r.

@@ -6,25 +6,13 @@ use Rattle.machine.specs.declared.state.Status.{Status}
 use Rattle.machine.specs.Machine.{registers}
 use Rattle.machine.specs.Says.{says}
 use Rattle.machine.proofs.Decided.{committable_seated}
-use Rattle.machine.proofs.Runs.{under_start, under_on, under_stop, under_end}
+use Rattle.machine.proofs.Runs.{under_on, under_stop, under_end}
 use Rattle.machine.proofs.Seats.{committed-seated}
 use Rattle.machine.proofs.advance.advance.Goals as goal
 
 -- the other seat with its status and no registers, of which no check asks anything
 abbrev bare : Status → Registers
 bare s = registers [] [] s
-
-pub loop-count-init : goal.loop-count-init
-loop-count-init c = λ o h. under_start _ _ _ _ _
-
-pub decide-v-requires : goal.decide-v-requires
-decide-v-requires c = tt
-
-pub shape_of-memory-in-Err : goal.shape_of-memory-in-Err
-shape_of-memory-in-Err c = (c.loop-count.invariant (bare c.args.other) refl).memory
-
-pub shape_of-journal-in-Err : goal.shape_of-journal-in-Err
-shape_of-journal-in-Err c = (c.loop-count.invariant (bare c.args.other) refl).journal
 
 pub returns-in-Err : goal.returns-in-Err
 returns-in-Err c =
@@ -69,12 +57,6 @@ loop-count-preserved c =
     (rw (after.0, after.1, c.store.ensures, c.write_record.ensures, c.record_of-record.ensures) (committed-seated _ _ _ _ _ _ _))
     c.store.auto.memory
     c.write_record.auto.journal
-
-pub shape_of-memory : goal.shape_of-memory
-shape_of-memory c = (c.loop-count.invariant (bare c.args.other) refl).memory
-
-pub shape_of-journal : goal.shape_of-journal
-shape_of-journal c = (c.loop-count.invariant (bare c.args.other) refl).journal
 
 pub returns : goal.returns
 returns c =

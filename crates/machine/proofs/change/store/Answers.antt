@@ -10,14 +10,6 @@ put_word-requires c = placed_two c.in-Two.is c.requires
 pub put_word-requires-in-Four : goal.put_word-requires-in-Four
 put_word-requires-in-Four c = omega (arith, placed_four c.in-Four.is c.requires)
 
-pub overflow_add-i : goal.overflow_add-i
-overflow_add-i c =
-    omega (
-      arith,
-      placed_four c.in-Four.is c.requires,
-      c.well_formed,
-    )
-
 pub put_word-requires-in-Four-2 : goal.put_word-requires-in-Four-2
 put_word-requires-in-Four-2 c =
     omega (

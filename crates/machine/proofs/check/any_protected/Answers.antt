@@ -1,13 +1,9 @@
 -- `machine::check::any_protected` meets its contract: the invariant: what is left to look at decides.
 -- Assumes nothing.
-use Rattle.std.proofs.Common.{sym, ap, ◌∙◌, arith}
-use Rattle.protection.specs.Bits.{bitwise}
+use Rattle.std.proofs.Common.{sym, ◌∙◌}
 use Rattle.machine.specs.Check.{any_protected}
 use Rattle.machine.proofs.Protects.{any_more, any_none}
 use Rattle.machine.proofs.check.any_protected.Goals as goal
-
-pub loop-a-init : goal.loop-a-init
-loop-a-init c = ap (any_protected (bitwise c.args.protect.now) c.args.at) (omega arith)
 
 pub returns-then-is_protected : goal.returns-then-is_protected
 returns-then-is_protected c =

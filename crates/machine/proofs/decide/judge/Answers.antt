@@ -2,7 +2,6 @@
 -- Assumes nothing.
 use Rattle.std.proofs.Common.{◌/◌, sym, ◌∙◌, arith, le-ltb, lt-ltb}
 use Rattle.machine.specs.Decide.{judged}
-use Rattle.machine.proofs.Rows.{legal_passed}
 use Rattle.machine.proofs.decide.judge.Goals as goal
 
 pub returns-then-halts : goal.returns-then-halts
@@ -15,9 +14,6 @@ returns-then-full c =
     let a = c.args in
     let none = le-ltb a.used (a.journal / 4) (omega (arith, c.if-full.true)) in
     rw (← c.halts.ensures, c.if-halts.false, none)
-
-pub is_present-requires : goal.is_present-requires
-is_present-requires c = let l = c.args.l in rw c.span.ensures (legal_passed l.order l.operation l.legal).span
 
 pub returns-then-not-is_present : goal.returns-then-not-is_present
 unfolding judged
@@ -51,9 +47,6 @@ returns-then-any_protected c =
       ← c.any_protected.ensures,
       c.if-any_protected.true,
     )
-
-pub effect-requires : goal.effect-requires
-effect-requires c = rw (← c.span.ensures) (sym c.is_present.ensures ∙ c.if-not-is_present.false)
 
 pub returns : goal.returns
 unfolding judged

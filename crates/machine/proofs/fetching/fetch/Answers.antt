@@ -2,15 +2,12 @@
 -- Assumes nothing.
 use Rattle.std.proofs.Common.{sym, ◌∙◌}
 use Rattle.machine.specs.Fetch.{operands_read}
-use Rattle.machine.proofs.Rows.{first_register, legal_passed}
+use Rattle.machine.proofs.Rows.{first_register}
 use Rattle.machine.proofs.fetching.fetch.Goals as goal
 
 pub returns-in_default : goal.returns-in_default
 unfolding operands_read
 returns-in_default c = rw (← c.legal.ensures.said, c.in_default.is)
-
-pub is_present-requires : goal.is_present-requires
-is_present-requires c = let l = c.in-Some.l in rw c.span.ensures (legal_passed l.order l.operation l.legal).span
 
 pub returns-then-not-is_present : goal.returns-then-not-is_present
 unfolding operands_read
@@ -26,9 +23,6 @@ returns-then-not-is_present c =
 
 pub float_operand-first-requires : goal.float_operand-first-requires
 float_operand-first-requires c = first_register c.in-Some.l
-
-pub second_operand-second-requires : goal.second_operand-second-requires
-second_operand-second-requires c = rw (← c.span.ensures) (sym c.is_present.ensures ∙ c.if-not-is_present.false)
 
 pub returns : goal.returns
 unfolding operands_read

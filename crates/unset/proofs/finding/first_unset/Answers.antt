@@ -32,6 +32,3 @@ checked c =
 
 pub explore-requires : goal.explore-requires
 explore-requires c = (checked (goal.at.explore-requires c).Else-not-all_legal, rw c.new.ensures)
-
-pub lowest-requires : goal.lowest-requires
-lowest-requires c = record { checked = checked (goal.at.lowest-requires c).Else-not-all_legal; explored = c.explore.ensures }

@@ -10,19 +10,10 @@ use Rattle.unset.proofs.finding.lowest.Goals as goal
 pub overflow_cast-orders : goal.overflow_cast-orders
 overflow_cast-orders c = record { fits = omega (arith, few_cells _ c.requires.checked.sized) }
 
-pub loop-order-init : goal.loop-order-init
-loop-order-init c = λ q l. absurd (omega arith)
-
-pub unset_bits-bits-requires : goal.unset_bits-bits-requires
-unset_bits-bits-requires c = (c.requires, c.loop-order-test.true)
-
 pub lowest_bit-requires : goal.lowest_bit-requires
 lowest_bit-requires c =
     let start = c in
     (omega (arith, c.if-bits-ne0.true), unset_small _ _ _ _ start.requires c.loop-order-test.true c.unset_bits-bits.ensures)
-
-pub register_of-register-requires : goal.register_of-register-requires
-register_of-register-requires c = c.lowest_bit.ensures.small
 
 pub returns-then-bits-ne0 : goal.returns-then-bits-ne0
 returns-then-bits-ne0 c =

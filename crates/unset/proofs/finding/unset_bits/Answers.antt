@@ -24,12 +24,3 @@ pub bounds-unwritten-place-2 : goal.bounds-unwritten-place-2
 bounds-unwritten-place-2 c =
     let start = c in
     omega (arith, few_cells _ start.requires.0.checked.sized)
-
-pub returns : goal.returns
-returns c =
-    let same = c.in-Some.ensures.same ∙ c.order_at.ensures in
-    record {
-      operation = c.in-Some.l.operation;
-      legal = ap legal_of (sym same) ∙ c.in-Some.l.legal;
-      bits = rw (c.read.ensures, c.read-2.ensures, same);
-    }
