@@ -6,9 +6,8 @@ use mathlib.Core.Bool.{Bool, true, false, cond}
 use native.Mathlib.Omega.{arith}
 use mir.Val.{bool_byte}
 use borrow.Author.Rules.{rules}
-use lib.Pow.{split}
 use Rattle.protection.specs.Bits.{with_bit}
-use Rattle.protection.proofs.Bits.{bit_byte, high_byte, high_back, rejoined_from, rejoined}
+use Rattle.protection.proofs.Bits.{bit_byte, rejoined_from, rejoined}
 use Rattle.protection.proofs.bit.with_bit.Goals as goal
 use Rattle.protection.proofs.bit.with_bit.Goals.{Start}
 
@@ -30,18 +29,6 @@ value c = rejoined c.args.k c.args.b (byte c) (cond c.args.v 1 0) (digit c.args.
 
 small : (c : Start) → with_bit c.args.k (cond c.args.v 1 0) c.args.b < 256
 small c = bit_byte c.args.k (cond c.args.v 1 0) c.args.b (digit c.args.v) c.requires (byte c)
-
-pub overflow_sub-low : goal.overflow_sub-low
-overflow_sub-low c = omega (arith, high_back c.args.k c.args.b (byte c), split c.args.b c.args.k)
-
-pub overflow_mul-result : goal.overflow_mul-result
-overflow_mul-result c = record { fits = omega (arith, high_byte c.args.k c.args.b (byte c)) }
-
-pub overflow_add-result : goal.overflow_add-result
-overflow_add-result c = rw (as_number c.args.v) (record { fits = omega (arith, high_byte c.args.k c.args.b (byte c), digit c.args.v) })
-
-pub overflow_add-result-2 : goal.overflow_add-result-2
-overflow_add-result-2 c = rw (as_number c.args.v, value c) (record { fits = omega (arith, small c) })
 
 pub overflow_cast-result-2 : goal.overflow_cast-result-2
 overflow_cast-result-2 c = rw (as_number c.args.v, value c) (record { fits = small c })
