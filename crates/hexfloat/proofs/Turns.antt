@@ -18,13 +18,6 @@ shift_fits i k rest h w = lt_of_lt_of_le (mul-lt-mul_of_pos_right h (pos k)) (le
 pub taken : {x : ℕ} (q r b : ℕ) → q * b + r ≡ x → r < b → record { taken = q; rest = r } ≡ turn_of x b
 taken q r b e h = λ i. record { taken = (sym (digits_div q h) ∙ ap (λ (y : ℕ). y / b) e) i; rest = (sym (digits_mod q h) ∙ ap (λ (y : ℕ). y % b) e) i }
 
--- one more taken out of the remainder
-pub one_more_taken : (q r b : ℕ) → b ≤ r → (q + 1) * b + (r - b) ≡ q * b + r
-one_more_taken q r b h = ap (λ (x : ℕ). x + (r - b)) (add-mul q 1 b) ∙ move (q * b)
-  where
-    move : (x : ℕ) → x + 1 * b + (r - b) ≡ x + r
-    move x = omega arith
-
 -- two turns in a row, the second of k digits
 pub two_turns : (x k b : ℕ) → 0 < b → x / b * 16 ^ k + x % b * 16 ^ k / b ≡ x * 16 ^ k / b
 two_turns x k b some =

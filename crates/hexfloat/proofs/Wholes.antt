@@ -1,7 +1,7 @@
 -- Whole numbers of which the first d digits are kept: where such a number stands, and how the code finds its first digits.
 use mathlib.Core.Path.{◌≡◌, sym, ap, ◌∙◌, subst₂}
 use Prim.Native.Nat.{ℕ, suc, ◌+◌, ◌-◌, ◌*◌, ◌/◌, ◌%◌, ◌^◌, ◌≤◌, ◌<◌}
-use native.Mathlib.Nat.{le_trans, le_of_eq, lt_of_lt_of_le, lt_of_le_of_lt, mul-le-mul_right, mul-lt-mul_of_pos_right, lt_of_mul-lt-mul_right, le_of_mul-le-mul_right, div-lt_iff_lt-mul, mul_assoc, mul_comm}
+use native.Mathlib.Nat.{le_trans, le_of_eq, lt_of_lt_of_le, lt_of_le_of_lt, mul-le-mul_right, mul-lt-mul_of_pos_right, lt_of_mul-lt-mul_right, le_of_mul-le-mul_right, mul_assoc, mul_comm}
 use native.Mathlib.Omega.{arith}
 use lib.Pow.{pow-add}
 use Rattle.hexfloat.specs.Normal.{digits}
@@ -21,13 +21,6 @@ pub moved_right : (d k s zeros : ℕ) → k ≡ d → zeros + digits s ≡ 16 �
 moved_right d k s zeros e h =
     let index : zeros ≡ 16 - digits s = omega arith in
     rw (e, index, four_bits (16 - d)) (ap (λ (x : ℕ). x / 16 ^ (16 - d)) (moved_left {w = 2 ^ 64} s (16 - digits s) (moved_most 16 s (omega arith))))
-
-pub first_digits_most : (d m : ℕ) → digits m ≤ 16 → d ≤ 16 → first_digits d m < 16 ^ d
-first_digits_most d m few fits =
-    (div-lt_iff_lt-mul (pos (16 - d))).1 (lt_of_lt_of_le (moved_most 16 m few) (le_of_eq (ap (λ (x : ℕ). 16 ^ x) whole ∙ pow-add 16 d (16 - d))))
-  where
-    whole : 16 ≡ d + (16 - d)
-    whole = omega arith
 
 -- A whole number of k digits, of which the first d are kept.
 module _ (d s k i j : ℕ) (least : 16 ^ k ≤ s * 16) (most : s < 16 ^ k) (cut : i + k ≡ j + d) where

@@ -1,5 +1,5 @@
 -- Steps, one at a time.
-use Rattle.std.proofs.Common.{◌≡◌, ℕ, suc, ◌+◌, ◌-◌, ◌<◌, ◌≤◌, List, length, sym, refl, ap, ◌∙◌, add-zero, zero-add, arith, ne_eqb}
+use Rattle.std.proofs.Common.{◌≡◌, ℕ, suc, ◌+◌, ◌-◌, ◌<◌, ◌≤◌, List, length, sym, refl, ap, ◌∙◌, add-zero, arith, ne_eqb}
 use Rattle.hexfloat.specs.Answer.{Answer, gives, stops}
 use Rattle.protection.specs.Form.{ProtectList}
 use Rattle.machine.specs.declared.verdict.Effect.{Effect}
@@ -66,10 +66,6 @@ pub record Under (d : List ℕ) (p : ProtectList) (k limit : ℕ) (start x : Mac
   pub journal : length x.journal ≡ length start.journal
 
 module _ (d : List ℕ) (p : ProtectList) (k limit : ℕ) (start : Machine) where
-  pub under_start : Under d p k limit start start 0
-  under_start =
-      let e : limit - 0 ≡ limit = omega arith in
-      record { same = rw (e, zero-add); within = omega arith; memory = refl; journal = refl }
 
   module _ (x : Machine) (count : ℕ) (u : Under d p k limit start x count) where
     left_over : count < limit → limit - count ≡ suc (limit - (count + 1))

@@ -7,7 +7,7 @@ use borrow.Author.Tests.{ltb-true, ltb-false}
 use native.Mathlib.Nat.{zero-div, le-add_right, mod-lt, mod-eq_of_lt, lt_of_lt_of_le, lt_of_le_of_lt, le_of_eq}
 use native.Mathlib.Omega.{arith}
 use lib.Arith.{digits_lt}
-use lib.Pow.{pow_pos, pow-add, shr-shr, shr_lt, shr_le, split, high, low, field, mod-mod-pow}
+use lib.Pow.{pow_pos, pow-add, shr-shr, shr_lt, split, high, low, field, mod-mod-pow}
 use Rattle.protection.specs.Bits.{bit_of, with_bit}
 
 -- the bits from k on, and those below it
@@ -74,8 +74,6 @@ abbrev pub rejoined_from : ℕ → ℕ → ℕ → ℕ
 rejoined_from k v b = (b / 2 ^ k / 2 * 2 + v) * 2 ^ k % 2 ^ 32 + (b - b / 2 ^ k * 2 ^ k % 2 ^ 32)
 
 module _ (k b : ℕ) (byte : b < 256) where
-  pub high_byte : b / 2 ^ k ≤ 255
-  high_byte = omega (arith, shr_le b k)
 
   pub high_back : b / 2 ^ k * 2 ^ k % 2 ^ 32 ≡ b / 2 ^ k * 2 ^ k
   high_back = mod-eq_of_lt (lt_of_le_of_lt (omega (arith, split b k)) (lt_of_lt_of_le byte (omega arith)))

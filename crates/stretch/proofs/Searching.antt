@@ -115,9 +115,6 @@ pub record Sought (d : List ℕ) (p : ProtectList) (k : ℕ) (x y : Machine) (la
   pub none : (f : ℕ) → first < f → f ≤ last → stops_alike d p k x last stop f ≡ false
   pub left : TakenBack x y
 
-pub sought_start : (d : List ℕ) (p : ProtectList) (k : ℕ) (x : Machine) (last stop : ℕ) → Sought d p k x x last stop last
-sought_start d p k x last stop = record { within = omega arith; none = λ f above below. absurd (omega arith); left = left_all x }
-
 module _ (d : List ℕ) (p : ProtectList) (k : ℕ) (s : State) (m j n l : List ℕ) (typed : Typed m) (last stop first : ℕ)
     (sought : Sought d p k (machine s m j) (machine s n l) last stop first) where
   -- a trial says of the start what it says of the machine that it is made on
@@ -155,9 +152,6 @@ module _ (d : List ℕ) (p : ProtectList) (k : ℕ) (s : State) (m j n l : List 
   sought_at {z} {alike} {pointer} e above holds tried =
       subst (λ (i : ℕ). Latest d p k (machine s m j) z pointer last stop i) (sym e)
       (sought_here above holds (subst (λ (i : ℕ). Tried d p k (machine s n l) z last stop i alike) e tried))
-
-  pub sought_end : {pointer : ℕ} → pointer ≤ first → first ≤ pointer → Latest d p k (machine s m j) (machine s n l) pointer last stop first
-  sought_end above below = record { within = sought.within; least = above; alike = λ h. absurd (omega arith); none = sought.none; left = sought.left }
 
 -- what is found is the shortest stretch
 module _ (d : List ℕ) (p : ProtectList) (k : ℕ) (x y : Machine) (entered : entry_of d p k x ≡ 0) (none : HasJump d → ⊥) (last stop first : ℕ)

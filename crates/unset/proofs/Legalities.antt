@@ -1,17 +1,10 @@
 -- What the code answers of check 5: of one order, and of all.
-use Rattle.std.proofs.Common.{◌≡◌, ℕ, ◌/◌, ◌<◌, Bool, true, false, List, length, sym}
-use Rattle.std.specs.Prelude.{Option, Some, None, is_some}
+use Rattle.std.proofs.Common.{◌≡◌, ℕ, ◌/◌, ◌<◌, Bool, true, false, List, length}
 use Rattle.std.specs.Bool.{MatchBool}
 use Rattle.hexfloat.specs.Answer.{stops}
-use Rattle.orders.specs.declared.legal_order.LegalOrder.{LegalOrder}
-use Rattle.orders.specs.Legality.{says_legality}
 use Rattle.orders.specs.Order.{order_at, legal_of}
 use Rattle.unset.specs.Answer.{Legal}
-use Rattle.unset.specs.Finding.{SaysLegal, SaysAllLegal}
-
-pub says_legal : (d : List ℕ) (p : ℕ) (r : Option LegalOrder) → says_legality r ≡ legal_of (order_at d p) → SaysLegal d p (is_some r)
-says_legal d p None said = sym said
-says_legal d p (Some l) said = record { operation = l.operation; legal = sym said }
+use Rattle.unset.specs.Finding.{SaysAllLegal}
 
 pub says_all_legal : (d : List ℕ) (r : Bool) → MatchBool r ((p : ℕ) → p < length d / 4 → Legal d p) ((p : ℕ) × (p < length d / 4) × (legal_of (order_at d p) ≡ stops 5)) → SaysAllLegal d r
 says_all_legal d true h = h
