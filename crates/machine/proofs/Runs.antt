@@ -66,7 +66,6 @@ pub record Under (d : List ℕ) (p : ProtectList) (k limit : ℕ) (start x : Mac
   pub journal : length x.journal ≡ length start.journal
 
 module _ (d : List ℕ) (p : ProtectList) (k limit : ℕ) (start : Machine) where
-
   module _ (x : Machine) (count : ℕ) (u : Under d p k limit start x count) where
     left_over : count < limit → limit - count ≡ suc (limit - (count + 1))
     left_over h = omega arith

@@ -74,7 +74,6 @@ abbrev pub rejoined_from : ℕ → ℕ → ℕ → ℕ
 rejoined_from k v b = (b / 2 ^ k / 2 * 2 + v) * 2 ^ k % 2 ^ 32 + (b - b / 2 ^ k * 2 ^ k % 2 ^ 32)
 
 module _ (k b : ℕ) (byte : b < 256) where
-
   pub high_back : b / 2 ^ k * 2 ^ k % 2 ^ 32 ≡ b / 2 ^ k * 2 ^ k
   high_back = mod-eq_of_lt (lt_of_le_of_lt (omega (arith, split b k)) (lt_of_lt_of_le byte (omega arith)))
 
