@@ -2,7 +2,6 @@
 use crate::case::{Case, Op};
 use hexfloat::{Coded, Fault, Words};
 use machine::Stop;
-use std::fmt;
 
 #[derive(Clone, Copy)]
 pub struct Given {
@@ -58,20 +57,27 @@ pub fn run(c: Case) -> Result<Given, Stop> {
     }
 }
 
-/// An answer as a line: 16 digits, the stop in two digits, the condition code or `-`.
-#[derive(Clone, Copy)]
-pub struct Answer(pub Result<Given, Stop>);
+const DIGITS: [u8; 16] = *b"0123456789ABCDEF";
 
-impl fmt::Display for Answer {
-    fn fmt<W: fmt::Write>(&self, f: &mut fmt::Formatter<W>) -> fmt::Result {
-        let given = match self.0 {
-            Ok(given) => given,
-            Err(stop) => return write!(f, "{:016} {:02} -", 0, u8::from(stop)),
-        };
-        write!(f, "{:08X}{:08X} 00 ", given.words.high, given.words.low)?;
-        match given.condition {
-            Some(condition) => write!(f, "{condition}"),
-            None => f.write_str("-"),
+/// An answer as a line: 16 digits, the stop in two digits, the condition code or `-`.
+// Kept: the digits by hand. By the formatter a case took 1.3 of the time.
+pub fn line_of(answer: Result<Given, Stop>) -> [u8; 22] {
+    let mut line = *b"0000000000000000 00 -\n";
+    match answer {
+        Ok(Given { words, condition }) => {
+            let words = u64::from(words.high) << 32 | u64::from(words.low);
+            for i in 0..16 {
+                line[i] = DIGITS[(words >> (60 - 4 * i) & 15) as usize];
+            }
+            if let Some(condition) = condition {
+                line[20] = DIGITS[(condition & 15) as usize];
+            }
+        }
+        Err(stop) => {
+            let number = u8::from(stop);
+            line[17] = b'0' + number / 10 % 10;
+            line[18] = b'0' + number % 10;
         }
     }
+    line
 }

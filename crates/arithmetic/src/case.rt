@@ -1,4 +1,4 @@
-// A case: `op mask a b`, with a and b of 16 digits 0-9 A-F.
+// A case: `op mask a b` in 38 bytes, with a and b of 16 digits 0-9 A-F and a line feed at the end.
 use hexfloat::{Sense, Width, Words};
 use trial::Ended;
 
@@ -61,7 +61,7 @@ fn words_of(digits: &[u8]) -> Result<Words, Ended> {
     })
 }
 
-pub fn parse(line: &[u8; 37]) -> Result<Case, Ended> {
+pub fn parse(line: &[u8; 38]) -> Result<Case, Ended> {
     if [line[1], line[3], line[20]] != [b' '; 3] {
         return Err(Ended::Malformed);
     }
@@ -69,6 +69,6 @@ pub fn parse(line: &[u8; 37]) -> Result<Case, Ended> {
         op: Op::try_from(line[0])?,
         mask: mask_of(line[2])?,
         a: words_of(&line[4..20])?,
-        b: words_of(&line[21..])?,
+        b: words_of(&line[21..37])?,
     })
 }

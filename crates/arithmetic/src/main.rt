@@ -6,20 +6,21 @@
 mod answer;
 mod case;
 
-use answer::Answer;
-use trial::Ended;
+use answer::{line_of, run};
+use std::io::Print;
+use trial::{Ended, Program};
 
-fn one_case(rt: HostRuntime) -> Result<(), Ended> {
-    let line: [u8; 37] = trial::first_line(rt)?;
-    let case = case::parse(&line)?;
-    println!(rt; "{}", Answer(answer::run(case)))?;
-    Ok(())
+struct Cases;
+
+impl Program for Cases {
+    fn one_case(rt: HostRuntime) -> Result<(), Ended> {
+        let line: [u8; 38] = trial::first_line(rt)?;
+        let case = case::parse(&line)?;
+        rt.stdout().write_all(&line_of(run(case)))?;
+        Ok(())
+    }
 }
 
 fn main(rt: HostRuntime) {
-    trial::each_case(
-        rt,
-        b"arithmetic: a line is not of the form `op mask a b`\n",
-        one_case,
-    );
+    trial::each_case::<Cases>(rt, b"arithmetic: a line is not of the form `op mask a b`\n");
 }

@@ -6,7 +6,7 @@
 // 64 halfwords of memory.
 #![tactic(auto)]
 
-use trial::{Desk, Ended, Halfwords};
+use trial::{Desk, Ended, Halfwords, Program};
 
 // Makes the calls from a fresh state and writes what each answers; then the first 64 halfwords of memory.
 fn run_case(rt: HostRuntime, text: &[u8], calls: &[u8]) -> Result<(), Ended> {
@@ -25,17 +25,21 @@ fn run_case(rt: HostRuntime, text: &[u8], calls: &[u8]) -> Result<(), Ended> {
     Ok(())
 }
 
-fn one_case(rt: HostRuntime) -> Result<(), Ended> {
-    let head: [u8; 11] = trial::first_line(rt)?;
-    let [length, count] = trial::numbers(10, &head, [5, 5])?;
-    let mut space = [0u8; 100000];
-    let text = trial::read_text(rt, &mut space, length as usize)?;
-    let mut room = [0u8; 100000];
-    let calls = room.get_mut(..count as usize * 2).ok_or(Ended::Malformed)?;
-    trial::read_line(rt, calls)?;
-    run_case(rt, text, calls)
+struct Cases;
+
+impl Program for Cases {
+    fn one_case(rt: HostRuntime) -> Result<(), Ended> {
+        let head: [u8; 12] = trial::first_line(rt)?;
+        let [length, count] = trial::numbers(10, &head, [5, 5])?;
+        let mut space = [0u8; 100000];
+        let mut room = [0u8; 100000];
+        let calls = room.get_mut(..count as usize * 2).ok_or(Ended::Malformed)?;
+        let text = trial::read_text(rt, &mut space, length as usize)?;
+        trial::read_line(rt, calls)?;
+        run_case(rt, text, calls)
+    }
 }
 
 fn main(rt: HostRuntime) {
-    trial::each_case(rt, b"calls: a case is not of the form\n", one_case);
+    trial::each_case::<Cases>(rt, b"calls: a case is not of the form\n");
 }

@@ -7,7 +7,7 @@
 
 use chart::Piece;
 use std::fmt;
-use trial::Ended;
+use trial::{Ended, Program};
 
 // Cells in decimal, a blank between two.
 // Kept: beside trial's `Words`, as one type for both would need the same body for two traits of `fmt`.
@@ -26,20 +26,24 @@ impl fmt::Display for Cells<'_> {
     }
 }
 
-fn one_case(rt: HostRuntime) -> Result<(), Ended> {
-    let head: [u8; 19] = trial::first_line(rt)?;
-    let [bound, rank, length] = trial::numbers(10, &head, [5, 10, 2])?;
-    let bound = u16::try_from(bound).map_err(|_| Ended::Malformed)?;
-    let mut space = [65535u16; 64];
-    let cells = space.get_mut(..length as usize).ok_or(Ended::Malformed)?;
-    match chart::list(bound, rank, cells) {
-        None => println!(rt; "19")?,
-        Some(Piece { total, written }) => println!(rt; "0 {total} {written}")?,
+struct Cases;
+
+impl Program for Cases {
+    fn one_case(rt: HostRuntime) -> Result<(), Ended> {
+        let head: [u8; 20] = trial::first_line(rt)?;
+        let [bound, rank, length] = trial::numbers(10, &head, [5, 10, 2])?;
+        let bound = u16::try_from(bound).map_err(|_| Ended::Malformed)?;
+        let mut space = [65535u16; 64];
+        let cells = space.get_mut(..length as usize).ok_or(Ended::Malformed)?;
+        match chart::list(bound, rank, cells) {
+            None => println!(rt; "19")?,
+            Some(Piece { total, written }) => println!(rt; "0 {total} {written}")?,
+        }
+        println!(rt; "{}", Cells(cells))?;
+        Ok(())
     }
-    println!(rt; "{}", Cells(cells))?;
-    Ok(())
 }
 
 fn main(rt: HostRuntime) {
-    trial::each_case(rt, b"charts: a case is not of the form\n", one_case);
+    trial::each_case::<Cases>(rt, b"charts: a case is not of the form\n");
 }

@@ -13,43 +13,64 @@ mod start;
 
 use list::{first, read_first};
 use start::read_start;
-use trial::{Ended, Halfwords};
+use std::fmt;
+use trial::{Ended, Halfwords, Program};
 
-// A blank list of that length.
+// Words in eight digits, with nothing between.
+#[derive(Clone, Copy)]
+struct Row<'a>(&'a [u32]);
+
+impl fmt::Display for Row<'_> {
+    fn fmt<W: fmt::Write>(&self, f: &mut fmt::Formatter<W>) -> fmt::Result {
+        for word in self.0 {
+            write!(f, "{word:08X}")?;
+        }
+        Ok(())
+    }
+}
+
+// The part of that length.
 fn lend<T>(room: &mut [T], length: usize) -> Result<&mut [T], Ended> {
     room.get_mut(..length).ok_or(Ended::Malformed)
 }
 
-// The buffers have more elements than any limit of the machine.
-fn one_case(rt: HostRuntime) -> Result<(), Ended> {
-    let head: [u8; 26] = trial::first_line(rt)?;
-    let [d, m, p, j, k] = trial::numbers(10, &head, [5, 5, 5, 5, 2])?;
-    let mut deck = [0u16; 40000];
-    let mut memory = [0u16; 40000];
-    let mut protect = [0u8; 40000];
-    let mut journal = [0u32; 40000];
-    let mut calls = [0u8; 200];
-    let deck = lend(&mut deck, d as usize)?;
-    let memory = lend(&mut memory, m as usize)?;
-    let protect = lend(&mut protect, p as usize)?;
-    let journal = lend(&mut journal, j as usize)?;
-    let calls = lend(&mut calls, k as usize * 2)?;
-    let start = read_start(rt)?;
-    read_first(rt, deck, 4)?;
-    read_first(rt, memory, 4)?;
-    read_first(rt, protect, 2)?;
-    read_first(rt, journal, 8)?;
-    trial::read_line(rt, calls)?;
-    let listed = trial::list(rt, calls, start, deck, memory, protect, journal);
-    listed.written?;
-    println!(rt; "{}", Halfwords(first(memory)))?;
-    for word in first(journal) {
-        print!(rt; "{word:08X}")?;
+struct Cases;
+
+impl Program for Cases {
+    // The buffers have more elements than any limit of the machine.
+    fn one_case(rt: HostRuntime) -> Result<(), Ended> {
+        let head: [u8; 27] = trial::first_line(rt)?;
+        let [d, m, p, j, k] = trial::numbers(10, &head, [5, 5, 5, 5, 2])?;
+        let mut deck = [0u16; 40000];
+        let mut memory = [0u16; 40000];
+        let mut protect = [0u8; 40000];
+        let mut journal = [0u32; 40000];
+        let mut calls = [0u8; 200];
+        // All lines but that of the calls are read before a fault in one of them counts.
+        let start = read_start(rt);
+        let deck_read = read_first(rt, &mut deck, d as usize, 4);
+        let memory_read = read_first(rt, &mut memory, m as usize, 4);
+        let protect_read = read_first(rt, &mut protect, p as usize, 2);
+        let journal_read = read_first(rt, &mut journal, j as usize, 8);
+        let start = start?;
+        deck_read
+            .and(memory_read)
+            .and(protect_read)
+            .and(journal_read)?;
+        let deck = lend(&mut deck, d as usize)?;
+        let memory = lend(&mut memory, m as usize)?;
+        let protect = lend(&mut protect, p as usize)?;
+        let journal = lend(&mut journal, j as usize)?;
+        let calls = lend(&mut calls, k as usize * 2)?;
+        trial::read_line(rt, calls)?;
+        let listed = trial::list(rt, calls, start, deck, memory, protect, journal);
+        listed.written?;
+        println!(rt; "{}", Halfwords(first(memory)))?;
+        println!(rt; "{}", Row(first(journal)))?;
+        Ok(())
     }
-    println!(rt; "")?;
-    Ok(())
 }
 
 fn main(rt: HostRuntime) {
-    trial::each_case(rt, b"odd: a case is not of the form\n", one_case);
+    trial::each_case::<Cases>(rt, b"odd: a case is not of the form\n");
 }

@@ -29,7 +29,11 @@ fn read_seat(rt: HostRuntime) -> Result<Registers, Ended> {
 
 pub fn read_start(rt: HostRuntime) -> Result<State, Ended> {
     let used = read_used(rt)?;
-    let seat0 = read_seat(rt)?;
-    let seat1 = read_seat(rt)?;
-    Ok(State { seat0, seat1, used })
+    let seat0 = read_seat(rt);
+    let seat1 = read_seat(rt);
+    Ok(State {
+        seat0: seat0?,
+        seat1: seat1?,
+        used,
+    })
 }

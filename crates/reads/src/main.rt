@@ -6,7 +6,7 @@
 #![tactic(auto)]
 
 use std::{fmt, io};
-use trial::{Desk, Ended};
+use trial::{Desk, Ended, Program};
 use unset::{Refusal, Register, Unset};
 
 #[derive(Clone, Copy)]
@@ -30,20 +30,26 @@ fn show(rt: HostRuntime, found: Result<Option<Unset>, Refusal>) -> io::Result<()
     }
 }
 
-// More cells than the largest deck has.
-fn one_case(rt: HostRuntime) -> Result<(), Ended> {
-    let head: [u8; 23] = trial::first_line(rt)?;
-    let [length, lent, place, value] = trial::numbers(10, &head, [5, 5, 5, 5])?;
-    let mut space = [0u8; 100000];
-    let text = trial::read_text(rt, &mut space, length as usize)?;
-    let mut desk = Desk::<20000, 0>::blank();
-    desk.read(text)?;
-    let deck = desk.cells.get_mut(..lent as usize).ok_or(Ended::Malformed)?;
-    trial::change(deck, place, value);
-    show(rt, unset::first_unset(deck))?;
-    Ok(())
+struct Cases;
+
+impl Program for Cases {
+    // More cells than the largest deck has.
+    fn one_case(rt: HostRuntime) -> Result<(), Ended> {
+        // Before the head is read, so that it is blanked once.
+        let mut space = [0u8; 100000];
+        let head: [u8; 24] = trial::first_line(rt)?;
+        let [length] = trial::numbers(10, &head, [5])?;
+        let text = trial::read_text(rt, &mut space, length as usize)?;
+        let [_, lent, place, value] = trial::numbers(10, &head, [5, 5, 5, 5])?;
+        let mut desk = Desk::<20000, 0>::blank();
+        desk.read(text)?;
+        let deck = desk.cells.get_mut(..lent as usize).ok_or(Ended::Malformed)?;
+        trial::change(deck, place, value);
+        show(rt, unset::first_unset(deck))?;
+        Ok(())
+    }
 }
 
 fn main(rt: HostRuntime) {
-    trial::each_case(rt, b"reads: a case is not of the form\n", one_case);
+    trial::each_case::<Cases>(rt, b"reads: a case is not of the form\n");
 }

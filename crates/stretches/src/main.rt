@@ -7,7 +7,7 @@
 
 use std::io;
 use stretch::{Refusal, Stretch};
-use trial::{Desk, Ended, Halfwords, Standing};
+use trial::{Desk, Ended, Halfwords, Program, Standing};
 
 fn show(rt: HostRuntime, found: Result<Stretch, Refusal>) -> io::Result<()> {
     match found {
@@ -37,14 +37,20 @@ fn ask(rt: HostRuntime, text: &[u8], seat: u32, steps: u32, words: usize) -> Res
     Ok(())
 }
 
-fn one_case(rt: HostRuntime) -> Result<(), Ended> {
-    let head: [u8; 19] = trial::first_line(rt)?;
-    let [length, seat, steps, words] = trial::numbers(10, &head, [5, 1, 5, 5])?;
-    let mut space = [0u8; 100000];
-    let text = trial::read_text(rt, &mut space, length as usize)?;
-    ask(rt, text, seat, steps, words as usize)
+struct Cases;
+
+impl Program for Cases {
+    fn one_case(rt: HostRuntime) -> Result<(), Ended> {
+        // Before the head is read, so that it is blanked once.
+        let mut space = [0u8; 100000];
+        let head: [u8; 20] = trial::first_line(rt)?;
+        let [length] = trial::numbers(10, &head, [5])?;
+        let text = trial::read_text(rt, &mut space, length as usize)?;
+        let [_, seat, steps, words] = trial::numbers(10, &head, [5, 1, 5, 5])?;
+        ask(rt, text, seat, steps, words as usize)
+    }
 }
 
 fn main(rt: HostRuntime) {
-    trial::each_case(rt, b"stretches: a case is not of the form\n", one_case);
+    trial::each_case::<Cases>(rt, b"stretches: a case is not of the form\n");
 }

@@ -31,20 +31,26 @@ module _ (a b : ℕ) (d : List ℕ) (p : ProtectList) (x : Machine) where
   unfolding called
   called_run other another s l e = rw (ne_eqb b 115 other, ne_eqb b 98 another, ← s, ← l) e
 
--- one call more, whose two bytes follow those of the calls before it
+-- one call more
+pub one_more :
+    (cs d : List ℕ) (p : ProtectList) (i : ℕ) (x y : Machine) (r : Outcome Machine) →
+    y ≡ after_calls cs d p i x → r ≡ call_of cs i d p y → r.after ≡ after_calls cs d p (i + 1) x
+unfolding after_calls
+one_more cs d p i x y r before e =
+    rw add-one (ap (λ (o : Outcome Machine). o.after) e ∙ ap (λ (z : Machine). (call_of cs i d p z).after) before)
+
+-- the same, where its two bytes follow those of the calls before it
 module _ (cs before pair rest : List ℕ) (i : ℕ) (whole : cs ≡ before ++ (pair ++ rest)) (place : length before ≡ 2 * i) (two : length pair ≡ 2) where
   byte_at : (n : ℕ) → n < length pair → get_or cs (2 * i + n) 0 ≡ get_or pair n 0
   byte_at n h = rw (whole, ← place) (get_or-append-add before (pair ++ rest) n 0 ∙ get_or-append pair rest 0 n h)
 
-  pub one_more :
+  pub one_pair :
       (d : List ℕ) (p : ProtectList) (x y : Machine) (r : Outcome Machine) →
       y ≡ after_calls cs d p i x → r ≡ called (get_or pair 0 0) (get_or pair 1 0) d p y → r.after ≡ after_calls cs d p (i + 1) x
-  unfolding after_calls
-  one_more d p x y r reached e =
+  one_pair d p x y r reached e =
       let first : get_or cs (2 * i) 0 ≡ get_or pair 0 0 = ap (λ (n : ℕ). get_or cs n 0) (sym (add-zero (2 * i))) ∙ byte_at 0 (rw two (lit< tt)) in
       let second : get_or cs (2 * i + 1) 0 ≡ get_or pair 1 0 = byte_at 1 (rw two (lit< tt)) in
-      let made : r ≡ call_of cs i d p y = rw (first, second) e in
-      rw add-one (ap (λ (o : Outcome Machine). o.after) made ∙ ap (λ (z : Machine). (call_of cs i d p z).after) reached)
+      one_more cs d p i x y r reached (rw (first, second) e)
 
   pub still_whole : cs ≡ (before ++ pair) ++ rest
   still_whole = rw append_assoc whole

@@ -24,17 +24,16 @@ impl From<io::Error> for Ended {
     }
 }
 
+/// A program of the gate: how it reads and answers one case.
+pub trait Program {
+    fn one_case(rt: HostRuntime) -> Result<(), Ended>;
+}
+
 /// Reads and answers one case after the other. Where one is not of the form, `complaint` is written on standard error.
-pub fn each_case<F: FnMut(HostRuntime) -> Result<(), Ended>>(
-    rt: HostRuntime,
-    complaint: &[u8],
-    mut one_case: F,
-)
-    requires { F.IsAlwaysCallable one_case }
-{
+pub fn each_case<P: Program>(rt: HostRuntime, complaint: &[u8]) {
     // A proved loop has to end: the turns are more than any run uses up.
     for _ in 0..u64::MAX {
-        if let Err(why) = one_case(rt) {
+        if let Err(why) = P::one_case(rt) {
             if why == Ended::Malformed {
                 let _ = rt.stderr().write_all(complaint);
             }

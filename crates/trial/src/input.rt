@@ -31,7 +31,8 @@ pub fn read_line(rt: HostRuntime, space: &mut [u8]) -> Result<(), Ended>
     }
 }
 
-/// A case's first line. The input ends where nothing is left of it, or a read fails.
+/// A case's first line of N bytes, the last of them its line feed, by one read. The input ends where nothing is left of
+/// it, or a read fails.
 pub fn first_line<const N: usize>(rt: HostRuntime) -> Result<[u8; N], Ended>
     ensures { IfErr result (λ why. (why ≡ Input) ⊎ (why ≡ Malformed)) }
 {
@@ -40,9 +41,7 @@ pub fn first_line<const N: usize>(rt: HostRuntime) -> Result<[u8; N], Ended>
     if got == 0 {
         return Err(Ended::Input);
     }
-    let mut end = [0u8; 1];
-    read_bytes(rt, &mut end)?;
-    if got == N && end[0] == b'\n' {
+    if got == N && line[N - 1] == b'\n' {
         Ok(line)
     } else {
         Err(Ended::Malformed)

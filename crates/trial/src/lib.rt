@@ -12,10 +12,11 @@ mod desk;
 mod digits;
 mod input;
 mod listing;
+mod output;
 
 pub use answer::{Halfwords, Standing, Words};
 pub use calling::{Called, call};
-pub use case::{Ended, each_case};
+pub use case::{Ended, Program, each_case};
 pub use desk::{Desk, change};
 pub use digits::{number, numbers};
 pub use input::{first_line, read_bytes, read_line, read_text};

@@ -4,10 +4,10 @@ ghost use Rattle.protection.specs.Bits.{bitwise};
 ghost use Rattle.machine.specs.Machine.{machine};
 ghost use Rattle.trial.specs.Call.{after_calls};
 
-use crate::calling::{Called, call};
+use crate::calling::call;
 use crate::case::Ended;
+use crate::output::write_line;
 use machine::State;
-use std::io::Print;
 
 // What stands after the calls that were made, and whether each has its line.
 #[derive(Clone, Copy)]
@@ -15,13 +15,6 @@ pub struct Listed {
     pub state: State,
     pub made: usize,
     pub written: Result<(), Ended>,
-}
-
-// A call by its two bytes, whatever they are, and what it answered.
-fn show(rt: HostRuntime, seat: u8, byte: u8, called: Called) -> Result<(), Ended> {
-    rt.stdout().write_all(&[seat, byte, b' '])?;
-    println!(rt; "{called}")?;
-    Ok(())
 }
 
 // Makes one call after the other, two bytes each, and writes a line for each; ends early where a line is not written.
@@ -48,7 +41,7 @@ pub fn list(
         let r = call(seat, byte, state, deck, memory, protect, journal);
         state = r.state;
         made += 1;
-        written = show(rt, seat, byte, r);
+        written = write_line(rt, &[seat, byte, b' '], r);
         if written.is_err() {
             break;
         }

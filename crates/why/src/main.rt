@@ -7,7 +7,7 @@
 
 use cause::{Cell, Named};
 use std::fmt;
-use trial::{Desk, Ended, Words};
+use trial::{Desk, Ended, Program, Words};
 
 // What a cause names, after a blank; nothing where it names nothing.
 #[derive(Clone, Copy)]
@@ -29,33 +29,39 @@ impl fmt::Display for Shown {
     }
 }
 
-// The steps, the change and the question.
-fn one_case(rt: HostRuntime) -> Result<(), Ended> {
-    let head: [u8; 27] = trial::first_line(rt)?;
-    let [length, steps, place, value, running, asked] = trial::numbers(
-        10,
-        &head,
-        [5, 5, 5, 5, 1, 1],
-    )?;
-    let mut space = [0u8; 100000];
-    let text = trial::read_text(rt, &mut space, length as usize)?;
-    let mut desk = Desk::<16384, 4096>::blank();
-    let count = desk.read(text)?;
-    let Desk {
-        cells,
-        memory,
-        protect,
-        journal,
-    } = &mut desk;
-    let deck = cells.get_mut(..count).ok_or(Ended::Malformed)?;
-    let start = machine::fresh();
-    let ran = machine::run(start, running, deck, memory, protect, journal, steps);
-    trial::change(deck, place, value);
-    let cause = cause::why(ran.state, asked, deck, memory, protect, journal);
-    println!(rt; "{}{}", cause.number, Shown(cause.named))?;
-    Ok(())
+struct Cases;
+
+impl Program for Cases {
+    // The steps, the change and the question.
+    fn one_case(rt: HostRuntime) -> Result<(), Ended> {
+        // Before the head is read, so that it is blanked once.
+        let mut space = [0u8; 100000];
+        let head: [u8; 28] = trial::first_line(rt)?;
+        let [length] = trial::numbers(10, &head, [5])?;
+        let text = trial::read_text(rt, &mut space, length as usize)?;
+        let [_, steps, place, value, running, asked] = trial::numbers(
+            10,
+            &head,
+            [5, 5, 5, 5, 1, 1],
+        )?;
+        let mut desk = Desk::<16384, 4096>::blank();
+        let count = desk.read(text)?;
+        let Desk {
+            cells,
+            memory,
+            protect,
+            journal,
+        } = &mut desk;
+        let deck = cells.get_mut(..count).ok_or(Ended::Malformed)?;
+        let start = machine::fresh();
+        let ran = machine::run(start, running, deck, memory, protect, journal, steps);
+        trial::change(deck, place, value);
+        let cause = cause::why(ran.state, asked, deck, memory, protect, journal);
+        println!(rt; "{}{}", cause.number, Shown(cause.named))?;
+        Ok(())
+    }
 }
 
 fn main(rt: HostRuntime) {
-    trial::each_case(rt, b"why: a case is not of the form\n", one_case);
+    trial::each_case::<Cases>(rt, b"why: a case is not of the form\n");
 }

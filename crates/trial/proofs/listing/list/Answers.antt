@@ -1,7 +1,7 @@
 -- One call more.
 use Rattle.std.proofs.Common.{rules, refl, ap, ◌∙◌, [], ◌++◌}
 use Rattle.trial.specs.Call.{after_calls}
-use Rattle.trial.proofs.Calls.{one_more, still_whole, further, in_list}
+use Rattle.trial.proofs.Calls.{one_pair, still_whole, further, in_list}
 use Rattle.trial.proofs.listing.list.Goals as goal
 
 pub loop-pair-init : goal.loop-pair-init
@@ -16,7 +16,7 @@ loop-pair-preserved c =
     let long = size ∙ two in (
       same ∙ two,
       (_, still_whole _ before _ _ _ whole place long, further _ before _ _ _ whole place long),
-      one_more _ before _ _ _ whole place long _ _ _ _ _ reached c.call-r.ensures,
+      one_pair _ before _ _ _ whole place long _ _ _ _ _ reached c.call-r.ensures,
     )
 
 pub returns-then-is_err-clause-stands : goal.returns-then-is_err-clause-stands
@@ -25,4 +25,4 @@ returns-then-is_err-clause-stands c =
     let (_, (chunk, size), _) = c.in-Some.ensures.steps in
     let whole = all ∙ ap (λ rest. before ++ rest) chunk in
     let long = size ∙ two in
-    (in_list _ before _ _ _ whole place long, one_more _ before _ _ _ whole place long _ _ _ _ _ reached c.call-r.ensures)
+    (in_list _ before _ _ _ whole place long, one_pair _ before _ _ _ whole place long _ _ _ _ _ reached c.call-r.ensures)
