@@ -46,7 +46,7 @@ impl Program for Cases {
         let mut protect = [0u8; 40000];
         let mut journal = [0u32; 40000];
         let mut calls = [0u8; 200];
-        // All lines but that of the calls are read before a fault in one of them counts.
+        // The state and the lists are read, each whatever became of the one before, and then looked at.
         let start = read_start(rt);
         let deck_read = read_first(rt, &mut deck, d as usize, 4);
         let memory_read = read_first(rt, &mut memory, m as usize, 4);

@@ -9,8 +9,8 @@ use std::io::{Cursor, Print, Write};
 // Room for the longest line, a call's with both seats, which has at most 530 bytes.
 const ROOM: usize = 576;
 
-/// Writes a line of some bytes, what is shown and a line feed, by one write, so that no part of it is written alone; none
-/// of it where it has no room.
+/// Writes a line of some bytes, what is shown and a line feed, by one write, so that a full pipe has no part of it alone;
+/// none of it where it has no room.
 pub(crate) fn write_line<D: Display + Drop>(
     rt: HostRuntime,
     bytes: &[u8],
