@@ -6,22 +6,25 @@
 // 64 halfwords of memory.
 #![tactic(auto)]
 
-use trial::{Desk, Ended, Halfwords, Program};
+use trial::{Desk, Ended, Joined, Program};
 
 // Makes the calls from a fresh state and writes what each answers; then the first 64 halfwords of memory.
 fn run_case(rt: HostRuntime, text: &[u8], calls: &[u8]) -> Result<(), Ended> {
-    let mut desk = Desk::<16384, 4096>::blank();
+    let desk = &mut Desk::<16384, 4096>::blank();
     let count = desk.read(text)?;
-    let Desk {
-        cells,
-        memory,
-        protect,
-        journal,
-    } = &mut desk;
-    let deck = &cells[..count];
-    let listed = trial::list(rt, calls, machine::fresh(), deck, memory, protect, journal);
+    let deck = &desk.cells[..count];
+    let fresh = machine::fresh();
+    let listed = trial::list(
+        rt,
+        calls,
+        fresh,
+        deck,
+        &mut desk.memory,
+        &desk.protect,
+        &mut desk.journal,
+    );
     listed.written?;
-    println!(rt; "{}", Halfwords(&memory[..64]))?;
+    println!(rt; "{:04}", Joined(&desk.memory[..64]))?;
     Ok(())
 }
 

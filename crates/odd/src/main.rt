@@ -13,21 +13,7 @@ mod start;
 
 use list::{first, read_first};
 use start::read_start;
-use std::fmt;
-use trial::{Ended, Halfwords, Program};
-
-// Words in eight digits, with nothing between.
-#[derive(Clone, Copy)]
-struct Row<'a>(&'a [u32]);
-
-impl fmt::Display for Row<'_> {
-    fn fmt<W: fmt::Write>(&self, f: &mut fmt::Formatter<W>) -> fmt::Result {
-        for word in self.0 {
-            write!(f, "{word:08X}")?;
-        }
-        Ok(())
-    }
-}
+use trial::{Ended, Joined, Program};
 
 // The part of that length.
 fn lend<T>(room: &mut [T], length: usize) -> Result<&mut [T], Ended> {
@@ -65,8 +51,8 @@ impl Program for Cases {
         trial::read_line(rt, calls)?;
         let listed = trial::list(rt, calls, start, deck, memory, protect, journal);
         listed.written?;
-        println!(rt; "{}", Halfwords(first(memory)))?;
-        println!(rt; "{}", Row(first(journal)))?;
+        println!(rt; "{:04}", Joined(first(memory)))?;
+        println!(rt; "{:08}", Joined(first(journal)))?;
         Ok(())
     }
 }

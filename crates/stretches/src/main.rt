@@ -7,7 +7,7 @@
 
 use std::io;
 use stretch::{Refusal, Stretch};
-use trial::{Desk, Ended, Halfwords, Program, Standing};
+use trial::{Desk, Ended, Joined, Program, Standing};
 
 fn show(rt: HostRuntime, found: Result<Stretch, Refusal>) -> io::Result<()> {
     match found {
@@ -18,22 +18,18 @@ fn show(rt: HostRuntime, found: Result<Stretch, Refusal>) -> io::Result<()> {
 
 // The steps and the question, with more words of journal than the largest has.
 fn ask(rt: HostRuntime, text: &[u8], seat: u32, steps: u32, words: usize) -> Result<(), Ended> {
-    let mut desk = Desk::<16384, 20000>::blank();
+    let desk = &mut Desk::<16384, 20000>::blank();
     let count = desk.read(text)?;
-    let Desk {
-        cells,
-        memory,
-        protect,
-        journal,
-    } = &mut desk;
-    let deck = &cells[..count];
-    let journal = journal.get_mut(..words).ok_or(Ended::Malformed)?;
+    let deck = &desk.cells[..count];
+    let memory = &mut desk.memory;
+    let protect = &desk.protect;
+    let journal = desk.journal.get_mut(..words).ok_or(Ended::Malformed)?;
     let start = machine::fresh();
     let ran = machine::run(start, seat, deck, memory, protect, journal, steps);
     let answer = stretch::shortest(ran.state, seat, deck, memory, protect, journal);
     show(rt, answer.found)?;
     println!(rt; "{}", Standing(&answer.state))?;
-    println!(rt; "{}", Halfwords(&memory[..32]))?;
+    println!(rt; "{:04}", Joined(&memory[..32]))?;
     Ok(())
 }
 

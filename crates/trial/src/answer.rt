@@ -19,14 +19,15 @@ impl fmt::Display for Words<'_> {
     }
 }
 
-/// Halfwords in four digits, with nothing between.
+/// Numbers in digits 0-9 A-F with nothing between, each in as many as the format asks for: halfwords by `{:04}`, words
+/// by `{:08}`.
 #[derive(Clone, Copy)]
-pub struct Halfwords<'a>(pub &'a [u16]);
+pub struct Joined<'a, T>(pub &'a [T]);
 
-impl fmt::Display for Halfwords<'_> {
+impl<T: fmt::UpperHex> fmt::Display for Joined<'_, T> {
     fn fmt<W: fmt::Write>(&self, f: &mut fmt::Formatter<W>) -> fmt::Result {
-        for halfword in self.0 {
-            write!(f, "{halfword:04X}")?;
+        for number in self.0 {
+            fmt::UpperHex::fmt(number, f)?;
         }
         Ok(())
     }

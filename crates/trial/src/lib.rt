@@ -14,7 +14,7 @@ mod input;
 mod listing;
 mod output;
 
-pub use answer::{Halfwords, Standing, Words};
+pub use answer::{Joined, Standing, Words};
 pub use calling::{Called, call};
 pub use case::{Ended, Program, each_case};
 pub use desk::{Desk, change};

@@ -46,17 +46,13 @@ impl Program for Cases {
         )?;
         let mut desk = Desk::<16384, 4096>::blank();
         let count = desk.read(text)?;
-        let Desk {
-            cells,
-            memory,
-            protect,
-            journal,
-        } = &mut desk;
-        let deck = cells.get_mut(..count).ok_or(Ended::Malformed)?;
+        let deck = desk.cells.get_mut(..count).ok_or(Ended::Malformed)?;
+        let memory = &mut desk.memory;
+        let journal = &mut desk.journal;
         let start = machine::fresh();
-        let ran = machine::run(start, running, deck, memory, protect, journal, steps);
+        let ran = machine::run(start, running, deck, memory, &desk.protect, journal, steps);
         trial::change(deck, place, value);
-        let cause = cause::why(ran.state, asked, deck, memory, protect, journal);
+        let cause = cause::why(ran.state, asked, deck, memory, &desk.protect, journal);
         println!(rt; "{}{}", cause.number, Shown(cause.named))?;
         Ok(())
     }
