@@ -1,5 +1,5 @@
 // Cases, one after the other, until the input ends or one cannot be answered.
-ghost use Rattle.std.specs.Prelude.{◌≡◌};
+ghost use Rattle.std.specs.Prelude.{◌≡◌, is_ok};
 ghost use Rattle.trial.specs.declared.case.Ended.TheVariants.{Output};
 
 use std::io;
@@ -29,15 +29,48 @@ pub trait Program {
     fn one_case(rt: HostRuntime) -> Result<(), Ended>;
 }
 
-/// Reads and answers one case after the other. Where one is not of the form, `complaint` is written on standard error.
+/// Whether another case follows one that was answered so. Where it is not of the form, `complaint` is written on standard
+/// error. A caller with a closure loops by this: a function that took the closure would need a `requires`.
+pub fn case_follows(rt: HostRuntime, complaint: &[u8], answered: Result<(), Ended>) -> bool
+    ensures { result ≡ is_ok answered }
+{
+    let Err(why) = answered else {
+        return true;
+    };
+    if why == Ended::Malformed {
+        let _ = rt.stderr().write_all(complaint);
+    }
+    false
+}
+
+/// Reads and answers one case of the program after the other.
 pub fn each_case<P: Program>(rt: HostRuntime, complaint: &[u8]) {
     // A proved loop has to end: the turns are more than any run uses up.
     for _ in 0..u64::MAX {
-        if let Err(why) = P::one_case(rt) {
-            if why == Ended::Malformed {
-                let _ = rt.stderr().write_all(complaint);
-            }
+        if !case_follows(rt, complaint, P::one_case(rt)) {
             return;
         }
+    }
+}
+
+#[cfg(test)]
+mod tests {
+    use super::*;
+
+    #[test]
+    fn a_closure_keeps_its_own_count(rt: HostRuntime) {
+        let mut left = 3u32;
+        let mut one_case = |_rt: HostRuntime| {
+            left = left.checked_sub(1).ok_or(Ended::Input)?;
+            Ok(())
+        };
+        let mut last = None;
+        for turn in 0..9 {
+            if !case_follows(rt, b"", one_case(rt)) {
+                last = Some(turn);
+                break;
+            }
+        }
+        assert_eq!(rt; last, Some(3));
     }
 }

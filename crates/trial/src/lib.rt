@@ -16,7 +16,7 @@ mod output;
 
 pub use answer::{Joined, Standing, Words};
 pub use calling::{Called, call};
-pub use case::{Ended, Program, each_case};
+pub use case::{Ended, Program, case_follows, each_case};
 pub use desk::{Desk, change};
 pub use digits::{number, numbers};
 pub use input::{first_line, read_bytes, read_line, read_text};
