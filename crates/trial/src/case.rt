@@ -34,22 +34,27 @@ pub trait Program {
 pub fn case_follows(rt: HostRuntime, complaint: &[u8], answered: Result<(), Ended>) -> bool
     ensures { result ≡ is_ok answered }
 {
-    let Err(why) = answered else {
-        return true;
-    };
-    if why == Ended::Malformed {
-        let _ = rt.stderr().write_all(complaint);
+    if let Err(why) = answered {
+        report(rt, complaint, why);
     }
-    false
+    answered.is_ok()
 }
 
-/// Reads and answers one case of the program after the other.
+/// Reads and answers one case of the program after the other, with the same complaint.
 pub fn each_case<P: Program>(rt: HostRuntime, complaint: &[u8]) {
     // A proved loop has to end: the turns are more than any run uses up.
     for _ in 0..u64::MAX {
-        if !case_follows(rt, complaint, P::one_case(rt)) {
+        if let Err(why) = P::one_case(rt) {
+            report(rt, complaint, why);
             return;
         }
+    }
+}
+
+// Of what ends the cases, only one that is not of the form is an error of who wrote them.
+fn report(rt: HostRuntime, complaint: &[u8], why: Ended) {
+    if why == Ended::Malformed {
+        let _ = rt.stderr().write_all(complaint);
     }
 }
 
