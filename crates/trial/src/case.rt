@@ -78,4 +78,12 @@ mod tests {
         }
         assert_eq!(rt; last, Some(3));
     }
+
+    // What is expected is looked for in standard error: the complaint itself, and an end by the assertion.
+    #[test]
+    #[should_panic(expected = "a case is not of the form")]
+    fn a_malformed_case_is_told_and_is_the_last(rt: HostRuntime) {
+        let follows = case_follows(rt, b"a case is not of the form\n", Err(Ended::Malformed));
+        assert!(rt; follows, "none follows");
+    }
 }
